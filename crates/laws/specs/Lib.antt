@@ -1,0 +1,3 @@
+-- Laws of the definitions of `rules`, which proofs cite.
+pub mod Tests
+pub mod Bytes

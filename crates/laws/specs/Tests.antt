@@ -1,0 +1,39 @@
+-- Tests: from what a branch of the code says to the test that a definition makes. `search tests` is the first thing to try.
+use mathlib.Core.Bool.{Bool, true, false, not}
+use mathlib.Core.Path.{_≡_, refl}
+use borrow.Author.Needs.{needs}
+use borrow.Author.Tests.{not-true, not-false, le-leb, lt-leb, lt-ltb, le-ltb, eq-eqb, ne-eqb}
+use Rattle.rules.specs.Bytes.{pick}
+
+-- a test that is a Bool already, with a head for a rewrite to look for
+unfoldable pub flag : Bool → Bool
+flag b = b
+
+pub flag-true : (b : Bool) → b ≡ true → flag b ≡ true
+unfolding flag
+flag-true b h = h
+
+pub flag-false : (b : Bool) → b ≡ false → flag b ≡ false
+unfolding flag
+flag-false b h = h
+
+pub flag-not-true : (b : Bool) → not b ≡ true → flag b ≡ false
+unfolding flag
+flag-not-true b h = not-true b h
+
+pub flag-not-false : (b : Bool) → not b ≡ false → flag b ≡ true
+unfolding flag
+flag-not-false b h = not-false b h
+
+-- a spec's tests from what the branches say
+pub ruleset tests = (needs, le-leb, lt-leb, lt-ltb, le-ltb, eq-eqb, ne-eqb, flag-true, flag-false, flag-not-true, flag-not-false)
+
+-- what holds of both branches holds of the choice
+pub pick-all : {A : Type 0} (P : A → Type 0) (b : Bool) (x y : A) → P x → P y → P (pick b x y)
+pick-all P true x y p q = p
+pick-all P false x y p q = q
+
+-- the same, with the test's value at hand
+pub pick-cases : {A : Type 0} (P : A → Type 0) (b : Bool) (x y : A) → (b ≡ true → P x) → (b ≡ false → P y) → P (pick b x y)
+pick-cases P true x y p q = p refl
+pick-cases P false x y p q = q refl

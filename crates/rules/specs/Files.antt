@@ -1,0 +1,128 @@
+-- 01, "The ten functions": open, rewind, the directory's functions, read sector, delete, rename. The block begins at f.
+use mathlib.Core.Bool.{Bool, true, false}
+use mathlib.Core.List.{List, [], _∷_, _++_}
+use Prim.Native.Nat.{ℕ, _+_, _*_, _/_, _%_}
+use lib.Dec.{eqb, ltb}
+use Rattle.rules.specs.Bytes.{pick, part, one, two, six, zeros, same}
+use Rattle.rules.specs.Stores.{Store, store, Put, put}
+use Rattle.rules.specs.Image.{index, isSector, isData, infoSector, firstFree, lastFree, freeCount}
+use Rattle.rules.specs.Names.{legal}
+use Rattle.rules.specs.Directory.{directoryRight, firstOfDirectory, firstSlotOf, find, vacancy, placeOf, slotBehind, attributesAt, startAt, endAt, sizeAt}
+use Rattle.rules.specs.Outcome.{Outcome, refuse, done, unless, when, onSlot, onNone}
+use Rattle.rules.specs.Block.{functionField, activityField, nameField, positionField, indexField, placeField, newNameField, compressionField, bufferField, nameIn, dateIn, positionIn, placeIn, newNameIn, inUse}
+use Rattle.rules.specs.Transfer.{slotIn, linked, mark}
+
+-- ---- 1 open read, 2 open write
+
+-- "Both then copy the slot to 4-27, zero 0 and 30-35, set 2, 47-49, and 59 to 255."
+unfoldable pub opened : ℕ → ℕ → List ℕ → List Put
+opened act slot entry =
+    put nameField entry
+    ∷ put functionField (one 0)
+    ∷ put positionField (zeros 6)
+    ∷ put activityField (one act)
+    ∷ put placeField (placeOf slot)
+    ∷ put compressionField (one 255)
+    ∷ []
+
+-- "1 open read: activity 0 or 16; 21, 5, 4, 2 (an FCB of activity 2 has that place)."
+unfoldable pub openRead : List ℕ → List ℕ → ℕ → ℕ → Outcome
+openRead img tab S f =
+    unless (legal tab (f + nameField)) 21
+    (onSlot (find img S (nameIn tab f)) 5 4 λ slot.
+    when (inUse false tab (placeOf slot)) 2
+    (done 0 [] (opened 1 slot (part img slot 24))))
+
+-- "gets name and date, all else 0"
+unfoldable pub newEntry : List ℕ → ℕ → List ℕ
+newEntry tab f = nameIn tab f ++ (zeros 10 ++ dateIn tab f)
+
+-- "2 open write: same activity; 21, 5, 3, 6; the first deleted or never-used slot in order gets name and date"
+unfoldable pub openWrite : List ℕ → List ℕ → ℕ → ℕ → Outcome
+openWrite img tab S f =
+    unless (legal tab (f + nameField)) 21
+    (onNone (find img S (nameIn tab f)) 5 3
+    (onSlot (vacancy img S) 5 6 λ slot.
+    done 0 (store (slot / 256) (slot % 256) (newEntry tab f) ∷ []) (opened 2 slot (newEntry tab f))))
+
+-- ---- 5 rewind, 6 open directory, 7 next slot, 9 read sector
+
+-- "5 rewind: .. zeroes 0, 30-31 and 34."
+unfoldable pub rewind : Outcome
+rewind = done 0 [] (put functionField (one 0) ∷ put positionField (two 0) ∷ put indexField (one 0) ∷ [])
+
+-- "6 open directory: .. activity 16, 47-49 zero."
+unfoldable pub openDirectory : Outcome
+openDirectory = done 0 [] (put activityField (one 16) ∷ put placeField (zeros 3) ∷ [])
+
+-- "Slot to 4-27.", and the place moves to it
+unfoldable pub shown : List ℕ → ℕ → Outcome
+shown img slot = done 0 [] (put placeField (placeOf slot) ∷ put nameField (part img slot 24) ∷ [])
+
+-- "7 next slot: .. place 0,0,0 goes to the first slot; after the last, 8 and no move; 5 before 8."
+unfoldable pub nextSlot : List ℕ → List ℕ → ℕ → ℕ → Outcome
+nextSlot img tab S f =
+    pick (same (placeIn tab f) (zeros 3))
+    (unless (directoryRight img S) 5 (shown img (firstSlotOf firstOfDirectory)))
+    (onSlot (slotIn img tab S f) 5 5 λ slot.
+    onSlot (slotBehind img S slot) 5 8 λ next.
+    shown img next)
+
+-- "9 read sector: .. any existing sector at 30-31 to the buffer, else 9."
+unfoldable pub readSector : List ℕ → List ℕ → ℕ → ℕ → ℕ → Outcome
+readSector img tab M S f =
+    unless (isSector M S (positionIn tab f)) 9
+    (done 0 [] (put bufferField (part img (256 * index S (positionIn tab f)) 256) ∷ []))
+
+-- ---- 12 delete, 13 rename
+
+-- "15 attributes (128 write protect, 64 delete protect)"
+unfoldable pub writeProtected : ℕ → Bool
+writeProtected attributes = eqb (attributes / 128 % 2) 1
+
+unfoldable pub deleteProtected : ℕ → Bool
+deleteProtected attributes = eqb (attributes / 64 % 2) 1
+
+-- "last free's link, or first free if the count is 0, becomes the start, last free the end, and the size is added to the count.
+-- The slot's first byte becomes 255"
+unfoldable pub hangStores : ℕ → ℕ → ℕ → ℕ → ℕ → ℕ → ℕ → ℕ → List Store
+hangStores S slot count first last start end size =
+    linked (eqb count 0) (index S last) start
+    ++ (store infoSector 29 (six (pick (eqb count 0) start first) end (count + size)) ∷ mark slot)
+
+-- "slot to 4-27": the slot as it is marked
+unfoldable pub gone : List ℕ → ℕ → List Put
+gone img slot = put nameField (one 255 ++ part img (slot + 1) 23) ∷ []
+
+-- "size 0 only marks. Else start and end, and last free if the count isn't 0, must be data sectors and the summed count at most 65,535 (9)"
+unfoldable pub remove : List ℕ → ℕ → ℕ → ℕ → Outcome
+remove img M S slot =
+    pick (eqb (sizeAt img slot) 0) (done 0 (mark slot) (gone img slot))
+    (unless (isData M S (startAt img slot)) 9
+    (unless (isData M S (endAt img slot)) 9
+    (unless (pick (eqb (freeCount img) 0) true (isData M S (lastFree img))) 9
+    (when (ltb 65535 (freeCount img + sizeAt img slot)) 9
+    (done 0
+    (hangStores S slot (freeCount img) (firstFree img) (lastFree img) (startAt img slot) (endAt img slot) (sizeAt img slot))
+    (gone img slot))))))
+
+-- "12 delete: activity 0 or 16; 21, 5, 4, 2 (activity 1 or 2), 12, 11."
+unfoldable pub delete : List ℕ → List ℕ → ℕ → ℕ → ℕ → Outcome
+delete img tab M S f =
+    unless (legal tab (f + nameField)) 21
+    (onSlot (find img S (nameIn tab f)) 5 4 λ slot.
+    when (inUse true tab (placeOf slot)) 2
+    (when (deleteProtected (attributesAt img slot)) 12
+    (when (writeProtected (attributesAt img slot)) 11
+    (remove img M S slot))))
+
+-- "13 rename: activity 0 or 16; 21 for either name, 5, 4, 2 (activity 1 or 2), 11, 3 (its own name too). New name to slot and FCB."
+unfoldable pub rename : List ℕ → List ℕ → ℕ → ℕ → Outcome
+rename img tab S f =
+    unless (legal tab (f + nameField)) 21
+    (unless (legal tab (f + newNameField)) 21
+    (onSlot (find img S (nameIn tab f)) 5 4 λ slot.
+    when (inUse true tab (placeOf slot)) 2
+    (when (writeProtected (attributesAt img slot)) 11
+    (onNone (find img S (newNameIn tab f)) 5 3
+    (done 0 (store (slot / 256) (slot % 256) (newNameIn tab f) ∷ []) (put nameField (newNameIn tab f) ∷ []))))))
