@@ -1,6 +1,8 @@
 -- Tests: from what a branch of the code says to the test that a definition makes. `search tests` is the first thing to try.
 use mathlib.Core.Bool.{Bool, true, false, not}
 use mathlib.Core.Path.{_≡_, refl}
+use Prim.Native.Nat.{ℕ}
+use native.Mathlib.Omega.{arith}
 use borrow.Author.Needs.{needs}
 use borrow.Author.Tests.{not-true, not-false, le-leb, lt-leb, lt-ltb, le-ltb, eq-eqb, ne-eqb}
 use Rattle.rules.specs.Bytes.{pick}
@@ -37,3 +39,16 @@ pick-all P false x y p q = q
 pub pick-cases : {A : Type 0} (P : A → Type 0) (b : Bool) (x y : A) → (b ≡ true → P x) → (b ≡ false → P y) → P (pick b x y)
 pick-cases P true x y p q = p refl
 pick-cases P false x y p q = q refl
+
+-- a test that holds does not fail
+pub never : false ≡ true → ⊥
+never h = let z : _≡_ {A = ℕ} 0 1 = cc in omega arith
+
+-- two tests that both hold; two of which one holds
+pub both : (b c : Bool) → pick b c false ≡ true → (b ≡ true) × (c ≡ true)
+both true c h = (refl, h)
+both false c h = absurd (never h)
+
+pub either : {A : Type 0} (b c : Bool) → pick b true c ≡ true → (b ≡ true → A) → (c ≡ true → A) → A
+either true c h f g = f refl
+either false c h f g = g h
