@@ -4,3 +4,4 @@ pub mod Bytes
 pub mod Each
 pub mod Small
 pub mod Stores
+pub mod Addresses

@@ -1,11 +1,12 @@
 -- Tests: from what a branch of the code says to the test that a definition makes. `search tests` is the first thing to try.
 use mathlib.Core.Bool.{Bool, true, false, not}
 use mathlib.Core.Path.{_≡_, refl}
-use Prim.Native.Nat.{ℕ}
+use Prim.Native.Nat.{ℕ, _≤_}
 use native.Mathlib.Omega.{arith}
 use borrow.Author.Needs.{needs}
-use borrow.Author.Tests.{not-true, not-false, le-leb, lt-leb, lt-ltb, le-ltb, eq-eqb, ne-eqb}
-use Rattle.rules.specs.Bytes.{pick}
+use borrow.Author.Tests.{not-true, not-false, le-leb, lt-leb, lt-ltb, le-ltb, eq-eqb, ne-eqb, leb-true}
+use lib.Dec.{leb}
+use Rattle.rules.specs.Bytes.{pick, within}
 
 -- a test that is a Bool already, with a head for a rewrite to look for
 unfoldable pub flag : Bool → Bool
@@ -52,3 +53,12 @@ both false c h = absurd (never h)
 pub either : {A : Type 0} (b c : Bool) → pick b true c ≡ true → (b ≡ true → A) → (c ≡ true → A) → A
 either true c h f g = f refl
 either false c h f g = g h
+
+-- a number between two
+pub within-is : (lo hi x : ℕ) → within lo hi x ≡ true → (lo ≤ x) × (x ≤ hi)
+unfolding within
+within-is lo hi x h = let t = both (leb lo x) (leb x hi) h in (leb-true lo x (t .0), leb-true x hi (t .1))
+
+pub within-true : (lo hi x : ℕ) → lo ≤ x → x ≤ hi → within lo hi x ≡ true
+unfolding within
+within-true lo hi x h k = rw (le-leb lo x h) (le-leb x hi k)
