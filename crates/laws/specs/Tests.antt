@@ -41,9 +41,13 @@ pub pick-cases : {A : Type 0} (P : A → Type 0) (b : Bool) (x y : A) → (b ≡
 pick-cases P true x y p q = p refl
 pick-cases P false x y p q = q refl
 
+-- two constructors that are said to be equal: `clash (cc)`
+pub clash : {A : Type 0} → _≡_ {A = ℕ} 0 1 → A
+clash z = absurd (omega arith)
+
 -- a test that holds does not fail
 pub never : false ≡ true → ⊥
-never h = let z : _≡_ {A = ℕ} 0 1 = cc in omega arith
+never h = clash (cc)
 
 -- two tests that both hold; two of which one holds
 pub both : (b c : Bool) → pick b c false ≡ true → (b ≡ true) × (c ≡ true)
