@@ -45,3 +45,14 @@ member-left x (y ∷ xs) ys h =
 pub member-right : (x : ℕ) (xs ys : List ℕ) → member x ys ≡ true → member x (xs ++ ys) ≡ true
 member-right x [] ys h = h
 member-right x (y ∷ xs) ys h = member-there x y (xs ++ ys) (member-right x xs ys h)
+
+-- a list's elements are its members, and those of a longer list
+pub each-own : (ys xs : List ℕ) → Each (λ (x : ℕ). member x (ys ++ xs) ≡ true) xs
+each-own ys xs = each-so (λ (x : ℕ). member x xs ≡ true) (λ (x : ℕ). member x (ys ++ xs) ≡ true) xs (λ x h. member-right x ys xs h) (own xs)
+  where
+    own : (zs : List ℕ) → Each (λ (x : ℕ). member x zs ≡ true) zs
+    own [] = tt
+    own (z ∷ zs) = (
+      member-here z zs,
+      each-so (λ (x : ℕ). member x zs ≡ true) (λ (x : ℕ). member x (z ∷ zs) ≡ true) zs (λ x h. member-there x z zs h) (own zs),
+    )

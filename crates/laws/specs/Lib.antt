@@ -6,3 +6,5 @@ pub mod Small
 pub mod Stores
 pub mod Addresses
 pub mod Slots
+pub mod Fair
+pub mod Facts

@@ -41,6 +41,11 @@ pub pick-cases : {A : Type 0} (P : A → Type 0) (b : Bool) (x y : A) → (b ≡
 pick-cases P true x y p q = p refl
 pick-cases P false x y p q = q refl
 
+-- three choices by one test
+pub pick-each : {A B C : Type 0} (P : A → B → C → Type 0) (t : Bool) (x y : A) (u v : B) (r s : C) → P x u r → P y v s → P (pick t x y) (pick t u v) (pick t r s)
+pick-each P true x y u v r s p q = p
+pick-each P false x y u v r s p q = q
+
 -- two constructors that are said to be equal: `clash (cc)`
 pub clash : {A : Type 0} → _≡_ {A = ℕ} 0 1 → A
 clash z = absurd (omega arith)
