@@ -1,28 +1,28 @@
 -- What each function may come to: the numbers it is refused with, its stores, its puts. On an image of the right shape; `asked` needs no such thing.
-use mathlib.Core.Path.{_≡_, refl, sym, ap, _∙_}
+use mathlib.Core.Path.{_≡_, refl}
 use mathlib.Core.Bool.{Bool, true, false}
 use mathlib.Core.List.{List, [], _∷_, _++_}
-use Prim.Native.Nat.{ℕ, _+_, _-_, _*_, _/_, _%_, _≤_, _<_}
+use Prim.Native.Nat.{ℕ, _+_, _*_, _/_, _%_, _≤_, _<_}
 use native.Mathlib.Omega.{arith}
 use lib.ListN.{length, length-append}
 use lib.Dec.{eqb, ltb}
-use Rattle.rules.specs.Bytes.{pick, byteAt, part, one, two, six, zeros, same}
-use Rattle.rules.specs.Stores.{Store, store, Put, put}
-use Rattle.rules.specs.Image.{lastTrack, perTrack, shapeRight, index, isSector, isData, linkOf, infoSector, firstFree, lastFree, freeCount}
+use Rattle.rules.specs.Bytes.{pick, part, zeros, same}
+use Rattle.rules.specs.Stores.{store}
+use Rattle.rules.specs.Image.{lastTrack, perTrack, shapeRight, index, isSector, isData, infoSector, firstFree, lastFree, freeCount}
 use Rattle.rules.specs.Names.{legal}
 use Rattle.rules.specs.Directory.{member, find, vacancy, directoryRight, placeOf, slotBehind, firstSlotOf, firstOfDirectory, attributesAt, startAt, endAt, sizeAt}
-use Rattle.rules.specs.Outcome.{Outcome, refuse, done, onSlot, onNone, andThen}
-use Rattle.rules.specs.Block.{activityField, functionField, nameField, startField, positionField, recordField, indexField, placeField, newNameField, compressionField, bufferField, functionIn, activityIn, driveIn, startIn, sizeIn, positionIn, indexIn, nameIn, dateIn, newNameIn, placeIn, inUse}
-use Rattle.rules.specs.Transfer.{nextToRead, loadPuts, load, reading, slotIn, fresh, linked, takeStores, takePuts, takeFor, takeSector, sent, fill, writing, transfer, shut, mark, closeWriting, close}
+use Rattle.rules.specs.Outcome.{Outcome}
+use Rattle.rules.specs.Block.{activityField, functionField, nameField, startField, positionField, recordField, indexField, placeField, newNameField, compressionField, bufferField, functionIn, activityIn, driveIn, sizeIn, positionIn, indexIn, nameIn, newNameIn, placeIn, inUse}
+use Rattle.rules.specs.Transfer.{nextToRead, loadPuts, load, reading, slotIn, linked, takeStores, takePuts, takeFor, takeSector, sent, fill, writing, transfer, shut, mark, closeWriting, close}
 use Rattle.rules.specs.Files.{opened, openRead, newEntry, openWrite, rewind, openDirectory, shown, nextSlot, readSector, writeProtected, deleteProtected, hangStores, gone, remove, delete, rename}
 use Rattle.rules.specs.Call.{served, fits, misfit, checked, perform, asked}
 use Rattle.laws.specs.Tests.{clash, either, pick-all, pick-cases, pick-each}
 use Rattle.laws.specs.Bytes.{length-one}
 use Rattle.laws.specs.Each.{Each, each-append, each-own}
 use Rattle.laws.specs.Small.{Small, small-one}
-use Rattle.laws.specs.Addresses.{Shape, Shaped, shape-is, sector-inside, track-inside, Lies, data-is, data-high}
+use Rattle.laws.specs.Addresses.{Shaped, shape-is, sector-inside, track-inside, data-is, data-high}
 use Rattle.laws.specs.Slots.{IsSlot, find-is, vacancy-is, placed-is}
-use Rattle.laws.specs.Fair.{onSlot-all, onNone-all, Run, run-one, run-two, run-six, run-zeros, run-part, run-fresh, run-place, run-append, GoodPut, GoodStore, good-put, good-store, length-linked, good-linked, Done, Fair, fair-still, fair-done, fair-more, fair-then}
+use Rattle.laws.specs.Fair.{onSlot-all, onNone-all, Run, run-one, run-two, run-six, run-zeros, run-part, run-fresh, run-place, run-append, GoodPut, GoodStore, good-put, good-store, length-linked, good-linked, Fair, fair-still, fair-done, fair-more, fair-then}
 
 -- what the call is given is below 256
 pub record Given (img tab : List ℕ) (b : ℕ) : Type 0 where

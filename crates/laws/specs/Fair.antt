@@ -1,11 +1,11 @@
 -- What a function may come to: which numbers it may be refused with, how many stores it may make, where they lie. Facts.antt proves it of each function.
-use mathlib.Core.Path.{_≡_, refl, _∙_}
+use mathlib.Core.Path.{_≡_, refl}
 use mathlib.Core.Bool.{Bool, true, false}
 use mathlib.Core.List.{List, [], _∷_, _++_}
-use Prim.Native.Nat.{ℕ, _+_, _*_, _/_, _%_, _≤_, _<_}
+use Prim.Native.Nat.{ℕ, _+_, _*_, _≤_, _<_}
 use native.Mathlib.Omega.{arith}
-use lib.ListN.{length, length-append, length-set}
-use Rattle.rules.specs.Bytes.{pick, part, one, two, six, zeros}
+use lib.ListN.{length, length-append}
+use Rattle.rules.specs.Bytes.{part, one, two, six, zeros}
 use Rattle.rules.specs.Stores.{Store, store, Put, put}
 use Rattle.rules.specs.Directory.{member, placeOf}
 use Rattle.rules.specs.Outcome.{Outcome, refuse, done, onSlot, onNone, andThen}
@@ -15,7 +15,8 @@ use Rattle.rules.specs.declared.Lookup.{Lookup}
 use Rattle.rules.specs.declared.Lookup.the-variants.{At, Missing, Broken}
 use Rattle.laws.specs.Tests.{pick-cases}
 use Rattle.laws.specs.Bytes.{length-one, length-two, length-six, length-zeros, length-part, length-fresh}
-use Rattle.laws.specs.Each.{Each, each-append, each-so, each-member}
+use Rattle.laws.specs.Each.{Each, each-append, each-member}
+use Rattle.laws.specs.Stores.{Inside, Within, SmallStore, SmallPut}
 use Rattle.laws.specs.Small.{Small, small-one, small-two, small-six, small-zeros, small-part, small-fresh, small-place, small-append}
 
 -- ---- outcomes by cases
@@ -84,6 +85,23 @@ good-put G i n vs r h g = (omega (arith, r .long), r .small g)
 
 pub good-store : (G : Type 0) (N k i n : ℕ) (vs : List ℕ) → Run G n vs → i + n ≤ 256 → 256 * k + 256 ≤ N → GoodStore G N (store k i vs)
 good-store G N k i n vs r h j = (omega (arith, r .long), j, r .small)
+
+-- each half of what is good
+pub puts-within : (G : Type 0) (ps : List Put) → Each (GoodPut G) ps → G → Each Within ps
+puts-within G [] p g = tt
+puts-within G (put i vs ∷ ps) p g = (p .0 g .0, puts-within G ps (p .1) g)
+
+pub puts-small : (G : Type 0) (ps : List Put) → Each (GoodPut G) ps → G → Each SmallPut ps
+puts-small G [] p g = tt
+puts-small G (put i vs ∷ ps) p g = (p .0 g .1, puts-small G ps (p .1) g)
+
+pub stores-inside : (G : Type 0) (N : ℕ) (ss : List Store) → Each (GoodStore G N) ss → Each (Inside N) ss
+stores-inside G N [] s = tt
+stores-inside G N (store k i vs ∷ ss) s = ((s .0 .0, s .0 .1), stores-inside G N ss (s .1))
+
+pub stores-small : (G : Type 0) (N : ℕ) (ss : List Store) → Each (GoodStore G N) ss → G → Each SmallStore ss
+stores-small G N [] s g = tt
+stores-small G N (store k i vs ∷ ss) s g = (s .0 .2 g, stores-small G N ss (s .1) g)
 
 pub length-linked : (none : Bool) (k a : ℕ) → length (linked none k a) ≤ 1
 unfolding linked

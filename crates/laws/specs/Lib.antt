@@ -8,3 +8,4 @@ pub mod Addresses
 pub mod Slots
 pub mod Fair
 pub mod Facts
+pub mod Effects

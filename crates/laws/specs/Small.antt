@@ -1,9 +1,14 @@
 -- Bytes below 256, of every list that is stored.
+use mathlib.Core.Path.{_≡_}
+use mathlib.Core.Bool.{Bool, true, false}
 use mathlib.Core.List.{List, [], _∷_, _++_}
 use Prim.Native.Nat.{ℕ, zero, suc, _+_, _<_}
 use native.Mathlib.Omega.{arith}
 use lib.ListN.{getD, set}
-use Rattle.rules.specs.Bytes.{wordAt, part, over, one, two, six, zeros}
+use lib.Dec.{ltb}
+use borrow.Author.Tests.{ltb-true}
+use Rattle.laws.specs.Tests.{both}
+use Rattle.rules.specs.Bytes.{pick, wordAt, part, over, one, two, six, zeros}
 use Rattle.rules.specs.Directory.{placeOf}
 use Rattle.rules.specs.Transfer.{fresh}
 
@@ -74,3 +79,13 @@ small-place slot = small-cons (omega arith) (small-cons (omega arith) (small-con
 pub small-word : (m : List ℕ) (at : ℕ) → Small m → wordAt m at < 65536
 unfolding wordAt
 small-word m at s = omega (arith, s .at at, s .at (at + 1))
+
+-- of a list that is written out: computed
+unfoldable pub allSmall : List ℕ → Bool
+allSmall [] = true
+allSmall (v ∷ vs) = pick (ltb v 256) (allSmall vs) false
+
+pub small-all : (vs : List ℕ) → allSmall vs ≡ true → Small vs
+unfolding allSmall
+small-all [] h = small-nil
+small-all (v ∷ vs) h = let q = both (ltb v 256) (allSmall vs) h in small-cons (ltb-true v 256 (q .0)) (small-all vs (q .1))
