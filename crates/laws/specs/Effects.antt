@@ -17,7 +17,7 @@ use Rattle.rules.specs.Call.{asked, call}
 use Rattle.laws.specs.Tests.{either, within-is, pick-all, pick-cases}
 use Rattle.laws.specs.Bytes.{length-one}
 use Rattle.laws.specs.Each.{Each, each-append, each-at, each-member, member-there, among, among-each}
-use Rattle.laws.specs.Small.{Small, allSmall, small-all}
+use Rattle.laws.specs.Small.{Small, small-each}
 use Rattle.laws.specs.Stores.{length-stored, length-puts, puts-off, puts-other, Inside, Within, small-stored, small-puts}
 use Rattle.laws.specs.Fair.{Run, run-one, GoodPut, good-put, puts-within, puts-small, stores-inside, stores-small, Done, Fair, fair-still, fair-more, fair-then}
 use Rattle.laws.specs.Facts.{Given, refusals, mostStores, inChecks, askedNumbers, asked-fair}
@@ -234,11 +234,11 @@ preset-quiet img tab n i v =
 
 -- each extension is three bytes
 ThreeBytes : List ℕ → Type 0
-ThreeBytes vs = (length vs ≡ 3) × (allSmall vs ≡ true)
+ThreeBytes vs = (length vs ≡ 3) × Each (λ (v : ℕ). v < 256) vs
 
 extensions-three : Each ThreeBytes extensions
-unfolding extensions allSmall ThreeBytes
-extensions-three = search depth 16
+unfolding extensions ThreeBytes
+extensions-three = (omega arith, (omega arith, (omega arith, (omega arith, (omega arith, (omega arith, (omega arith, (omega arith, (omega arith, (omega arith, (omega arith, (omega arith, tt))))))))))))
 
 abbrev pub extensionNumbers : List ℕ
 extensionNumbers = 0 ∷ 13 ∷ []
@@ -261,7 +261,7 @@ extension-quiet img tab n code =
     H = Given img tab 0
 
     three : (vs : List ℕ) → ThreeBytes vs → Run H 3 vs
-    three vs h = record { long = h .0; small = λ g. small-all vs (h .1) }
+    three vs h = record { long = h .0; small = λ g. small-each vs (h .1) }
 
     Q : Effect → Type 0
     Q e = Quiet img tab 0 (blockAt n) extensionNumbers e

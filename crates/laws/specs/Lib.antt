@@ -9,3 +9,6 @@ pub mod Slots
 pub mod Fair
 pub mod Facts
 pub mod Effects
+pub mod Counting
+pub mod Surveys
+pub mod Texts
