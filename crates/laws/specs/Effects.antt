@@ -107,9 +107,9 @@ module _ (img tab : List ℕ) (b f : ℕ) (es : List ℕ) (n : ℕ) where
         byte = d .byte;
         few = d .few;
         inside = stores-inside G (length img) ss (d .stores);
-        within = puts-within G ps (d .blocks);
+        within = puts-within G ps (d .block);
         image-small = λ g. small-stored ss img (g .image) (stores-small G (length img) ss (d .stores) g);
-        table-small = λ g. small-puts ps tab f (g .table) (puts-small G ps (d .blocks) g);
+        table-small = λ g. small-puts ps tab f (g .table) (puts-small G ps (d .block) g);
         refused = r;
       }
 

@@ -142,7 +142,7 @@ module _ (img tab : List ℕ) (f b : ℕ) (z : Shaped img) where
   load-fair a =
       pick-all (F inReading 0) (eqb a 0) _ _ refl
       (pick-all (F inReading 0) (isData M S a) _ _
-      (record { byte = λ g. g .image .at (256 * index S a + 4); few = omega arith; stores = tt; blocks = good-load a (index S a) })
+      (record { byte = λ g. g .image .at (256 * index S a + 4); few = omega arith; stores = tt; block = good-load a (index S a) })
       refl)
 
   pub reading-fair : F inReading 0 (reading img tab M S f)
@@ -153,7 +153,7 @@ module _ (img tab : List ℕ) (f b : ℕ) (z : Shaped img) where
         byte = λ g. g .table .at (f + (bufferField + indexIn tab f));
         few = omega arith;
         stores = tt;
-        blocks = (good-put G indexField 1 _ (run-one G _ (λ g. omega arith)) (omega arith), tt);
+        block = (good-put G indexField 1 _ (run-one G _ (λ g. omega arith)) (omega arith), tt);
       })
 
   -- ---- writing
@@ -206,7 +206,7 @@ module _ (img tab : List ℕ) (f b : ℕ) (z : Shaped img) where
 
   sector-fair : F inWriting 4 (takeSector img tab M S f)
   unfolding takeSector member
-  sector-fair = onSlot-all (F inWriting 4) (slotIn img tab S f) 5 5 _ refl refl (λ slot e. take-fair slot (placed-is img S _ _ slot e .slot))
+  sector-fair = onSlot-all (F inWriting 4) (slotIn img tab S f) 5 5 _ refl refl (λ slot e. take-fair slot (placed-is img S _ _ slot e .0 .slot))
 
   good-sent : (i : ℕ) → (G → i < 256) → Each (GoodPut G) (sent i b)
   unfolding sent
@@ -257,7 +257,7 @@ module _ (img tab : List ℕ) (f b : ℕ) (z : Shaped img) where
       pick-all (F inClose 1) (eqb (activityIn tab f) 2) _ _
       (pick-all (F inClose 1) (eqb (positionIn tab f) 0) _ _
       (onSlot-all (F inClose 1) (slotIn img tab S f) 5 5 _ refl refl
-      (λ slot e. fair-done G N inClose 1 _ _ (omega (arith, few-mark slot)) (good-mark slot (placed-is img S _ _ slot e .slot)) good-shut))
+      (λ slot e. fair-done G N inClose 1 _ _ (omega (arith, few-mark slot)) (good-mark slot (placed-is img S _ _ slot e .0 .slot)) good-shut))
       (pick-all (F inClose 1) (eqb (indexIn tab f) 0) _ _ (fair-still G N inClose 1 _ good-shut)
       (pick-cases (F inClose 1) (isData M S (positionIn tab f)) _ _
       (λ d. fair-done G N inClose 1 _ _ (omega arith) (good-buffer (positionIn tab f) _ d (run-part G tab _ 252 (λ g. g .table))) good-shut)

@@ -121,7 +121,7 @@ pub record Done (G : Type 0) (N n b : ℕ) (ss : List Store) (ps : List Put) : T
   pub byte : G → b < 256
   pub few : length ss ≤ n
   pub stores : Each (GoodStore G N) ss
-  pub blocks : Each (GoodPut G) ps
+  pub block : Each (GoodPut G) ps
 
 -- refused with one of the numbers, or done
 abbrev pub Fair : Type 0 → ℕ → List ℕ → ℕ → Outcome → Type 0
@@ -130,19 +130,19 @@ Fair G N es n (done b ss ps) = Done G N n b ss ps
 
 -- with no store, and 0 for the byte
 pub fair-still : (G : Type 0) (N : ℕ) (es : List ℕ) (n : ℕ) (ps : List Put) → Each (GoodPut G) ps → Fair G N es n (done 0 [] ps)
-fair-still G N es n ps p = record { byte = λ g. omega arith; few = omega arith; stores = tt; blocks = p }
+fair-still G N es n ps p = record { byte = λ g. omega arith; few = omega arith; stores = tt; block = p }
 
 -- with stores, and 0 for the byte
 pub fair-done : (G : Type 0) (N : ℕ) (es : List ℕ) (n : ℕ) (ss : List Store) (ps : List Put)
     → length ss ≤ n → Each (GoodStore G N) ss → Each (GoodPut G) ps → Fair G N es n (done 0 ss ps)
-fair-done G N es n ss ps h s p = record { byte = λ g. omega arith; few = h; stores = s; blocks = p }
+fair-done G N es n ss ps h s p = record { byte = λ g. omega arith; few = h; stores = s; block = p }
 
 -- more numbers, more stores
 pub fair-more : (G : Type 0) (N : ℕ) (es fs : List ℕ) (n m : ℕ) (o : Outcome) → Each (λ (e : ℕ). member e fs ≡ true) es → n ≤ m → Fair G N es n o → Fair G N fs m o
 fair-more G N es fs n m (refuse e) h l f = each-member (λ (x : ℕ). member x fs ≡ true) es e h f
-fair-more G N es fs n m (done b ss ps) h l f = record { byte = f .byte; few = omega (arith, f .few); stores = f .stores; blocks = f .blocks }
+fair-more G N es fs n m (done b ss ps) h l f = record { byte = f .byte; few = omega (arith, f .few); stores = f .stores; block = f .block }
 
 pub fair-then : (G : Type 0) (N : ℕ) (es : List ℕ) (n : ℕ) (o : Outcome) (qs : List Put) → Fair G N es n o → Each (GoodPut G) qs → Fair G N es n (andThen o qs)
 fair-then G N es n (refuse e) qs f q = f
 fair-then G N es n (done b ss ps) qs f q =
-    record { byte = f .byte; few = f .few; stores = f .stores; blocks = each-append (GoodPut G) ps qs (f .blocks) q }
+    record { byte = f .byte; few = f .few; stores = f .stores; block = each-append (GoodPut G) ps qs (f .block) q }
