@@ -2,3 +2,11 @@
 pub mod Tests
 pub mod Bytes
 pub mod Single
+pub mod Each
+pub mod Small
+pub mod Stores
+pub mod Addresses
+pub mod Slots
+pub mod Fair
+pub mod Facts
+pub mod Effects
