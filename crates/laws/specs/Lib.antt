@@ -3,3 +3,11 @@ pub mod Tests
 pub mod Bytes
 pub mod Single
 pub mod Walk
+pub mod Each
+pub mod Small
+pub mod Stores
+pub mod Addresses
+pub mod Slots
+pub mod Fair
+pub mod Facts
+pub mod Effects
