@@ -15,5 +15,3 @@ pub mod Effects
 pub mod Counting
 pub mod Surveys
 pub mod Texts
-pub mod Single
-pub mod Walk
