@@ -11,3 +11,4 @@ pub mod Slots
 pub mod Fair
 pub mod Facts
 pub mod Effects
+pub mod Settled
