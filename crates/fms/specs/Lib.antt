@@ -1,0 +1,3 @@
+-- The call in steps, as the code makes them.
+pub mod Steps
+pub mod Stub
