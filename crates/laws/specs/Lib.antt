@@ -13,3 +13,5 @@ pub mod Effects
 pub mod Counting
 pub mod Surveys
 pub mod Texts
+pub mod Single
+pub mod Walk
