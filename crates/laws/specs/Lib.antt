@@ -15,3 +15,4 @@ pub mod Surveys
 pub mod Texts
 pub mod Single
 pub mod Walk
+pub mod Parts
