@@ -2,6 +2,8 @@
 pub mod Tests
 pub mod Ranges
 pub mod Bytes
+pub mod Single
+pub mod Walk
 pub mod Each
 pub mod Small
 pub mod Stores
