@@ -6,9 +6,9 @@ use lib.ListN.{getD}
 use borrow.Author.Tests.{ne-eqb}
 use Rattle.rules.specs.Outcome.{Out, out, left, settled}
 use Rattle.rules.specs.Transfer.{transfer, close, reading, writing}
-use Rattle.fms.specs.Stub.{outOf}
-use Rattle.fms.specs.declared.stub.Given.{Given}
-use Rattle.fms.specs.declared.stub.Given.the-variants.{Byte, Refused}
+use Rattle.transfer.specs.Given.{numberOf, byteOf, Proper}
+use Rattle.transfer.specs.declared.Given.{Given}
+use Rattle.transfer.specs.declared.Given.the-variants.{Byte, Refused}
 use Rattle.rules.specs.Files.{openRead, openWrite, rewind, openDirectory, nextSlot, readSector, delete, rename}
 use Rattle.rules.specs.Call.{perform}
 
@@ -79,12 +79,12 @@ module _ (img tab : List ℕ) (M S f b : ℕ) {act : ℕ} (c : act ≡ getD tab 
   unfolding transfer
   sends k e h = rw (← c, ne-eqb act 1 k) (plainly e h)
 
-  pub gets : {v : ℕ} {g : Given} {t : List ℕ} → act ≡ 1 → g ≡ Byte v → outOf g img t ≡ left img tab f (settled (reading img tab M S f))
+  pub gets : {v : ℕ} {g : Given} {t : List ℕ} → act ≡ 1 → g ≡ Byte v → (out (numberOf g) (byteOf g) img t ≡ left img tab f (settled (reading img tab M S f))) × Proper g
       → out 0 v img t ≡ left img tab f (settled (transfer img tab M S f b))
   unfolding transfer
-  gets k e h = rw (← c, k) (rw e at h)
+  gets k e h = rw (← c, k) (rw e at (h .0))
 
-  pub gets-not : {v : ℕ} {g : Given} {t : List ℕ} → act ≡ 1 → g ≡ Refused v → outOf g img t ≡ left img tab f (settled (reading img tab M S f))
+  pub gets-not : {v : ℕ} {g : Given} {t : List ℕ} → act ≡ 1 → g ≡ Refused v → (out (numberOf g) (byteOf g) img t ≡ left img tab f (settled (reading img tab M S f))) × Proper g
       → out v 0 img t ≡ left img tab f (settled (transfer img tab M S f b))
   unfolding transfer
-  gets-not k e h = rw (← c, k) (rw e at h)
+  gets-not k e h = rw (← c, k) (rw e at (h .0))

@@ -1,3 +1,2 @@
 -- The call in steps, as the code makes them.
 pub mod Steps
-pub mod Stub

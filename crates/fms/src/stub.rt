@@ -1,20 +1,7 @@
 ghost use mathlib.Core.Path.{_≡_};
 ghost use mathlib.Core.List.{[]};
 ghost use Rattle.rules.specs.Outcome.{out, left, settled};
-ghost use Rattle.rules.specs.Transfer.{reading, writing, close};
 ghost use Rattle.rules.specs.Files.{openRead, openWrite, rewind, openDirectory, nextSlot, readSector, delete, rename};
-ghost use Rattle.fms.specs.Stub.{outOf};
-
-pub enum Given {
-    Byte(u8),
-    Refused(u8),
-}
-
-pub fn read(image: &[u8], table: &mut [u8], last: u8, per: u8, f: u16) -> Given
-    ensures { λ r. ⌜ outOf r (now (image .entry)) (now (table .exit)) ≡ left (now (image .entry)) (now (table .entry)) f (settled (reading (now (image .entry)) (now (table .entry)) last per f)) ⌝ }
-{
-    Given::Byte(0)
-}
 
 pub fn open_read(image: &[u8], table: &mut [u8], per: u8, f: u16) -> u8
     ensures { λ r. ⌜ out r 0 (now (image .entry)) (now (table .exit)) ≡ left (now (image .entry)) (now (table .entry)) f (settled (openRead (now (image .entry)) (now (table .entry)) per f)) ⌝ }
@@ -24,18 +11,6 @@ pub fn open_read(image: &[u8], table: &mut [u8], per: u8, f: u16) -> u8
 
 pub fn open_write(image: &mut [u8], table: &mut [u8], per: u8, f: u16) -> u8
     ensures { λ r. ⌜ out r 0 (now (image .exit)) (now (table .exit)) ≡ left (now (image .entry)) (now (table .entry)) f (settled (openWrite (now (image .entry)) (now (table .entry)) per f)) ⌝ }
-{
-    0
-}
-
-pub fn write(image: &mut [u8], table: &mut [u8], last: u8, per: u8, f: u16, byte: u8) -> u8
-    ensures { λ r. ⌜ out r 0 (now (image .exit)) (now (table .exit)) ≡ left (now (image .entry)) (now (table .entry)) f (settled (writing (now (image .entry)) (now (table .entry)) last per f byte)) ⌝ }
-{
-    0
-}
-
-pub fn close(image: &mut [u8], table: &mut [u8], last: u8, per: u8, f: u16) -> u8
-    ensures { λ r. ⌜ out r 0 (now (image .exit)) (now (table .exit)) ≡ left (now (image .entry)) (now (table .entry)) f (settled (close (now (image .entry)) (now (table .entry)) last per f)) ⌝ }
 {
     0
 }

@@ -15,6 +15,4 @@ pub mod Effects
 pub mod Counting
 pub mod Surveys
 pub mod Texts
-pub mod Single
-pub mod Walk
 pub mod Parts

@@ -6,8 +6,8 @@ use Rattle.fms.proofs.transfer_byte.Reads as reads
 use Rattle.fms.proofs.transfer_byte.Lts as lts
 use Rattle.cells.proofs.get_in.Reads as get-in-reads
 use Rattle.fms.proofs.plain.Reads as plain-reads
-use Rattle.fms.proofs.stub.read.Reads as read-reads
-use Rattle.fms.proofs.stub.write.Reads as write-reads
+use Rattle.transfer.proofs.read.Reads as read-reads
+use Rattle.transfer.proofs.write.Reads as write-reads
 
 -- src/lib.rt:58:9
 get-in-requires : tie.Need-get-in-requires
@@ -31,7 +31,7 @@ same-length-2 c = search needs
 
 -- src/lib.rt:60:9
 returns : tie.Need-returns
-returns c = search (sends, gets, gets-not)
+returns c = search sends
 
 -- src/lib.rt:62:9
 read-requires : tie.Need-read-requires
@@ -55,7 +55,7 @@ same-length-4 c = search needs
 
 -- src/lib.rt:55:1
 returns-2 : tie.Need-returns-2
-returns-2 c = search (sends, gets, gets-not)
+returns-2 c = search gets
 
 -- src/lib.rt:55:1
 same-length-5 : tie.Need-same-length-5
@@ -67,7 +67,7 @@ same-length-6 c = search needs
 
 -- src/lib.rt:55:1
 returns-3 : tie.Need-returns-3
-returns-3 c = search (sends, gets, gets-not)
+returns-3 c = search gets-not
 
 pub transfer-byte-spec : {M : Type 1} → statement M
 transfer-byte-spec =
