@@ -21,7 +21,7 @@ pub struct Entry {
 }
 
 // The eleven bytes at a place.
-fn name_at(buffer: &[u8], at: usize) -> [u8; 11]
+pub fn name_at(buffer: &[u8], at: usize) -> [u8; 11]
     ensures { λ r. ⌜ r ≡ part (now (buffer .entry)) at 11 ⌝ }
 {
     [

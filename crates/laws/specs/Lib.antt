@@ -16,3 +16,4 @@ pub mod Counting
 pub mod Surveys
 pub mod Texts
 pub mod Parts
+pub mod Settled
