@@ -60,7 +60,7 @@ module _ (img tab : List ℕ) (M S f b : ℕ) {code x y a : ℕ} {i t : List ℕ
   unfolding perform
   does-13 h0 h1 h2 h4 h5 h6 h7 h9 h12 h =
       rw (← c, ne-eqb code 0 h0, ne-eqb code 1 h1, ne-eqb code 2 h2, ne-eqb code 4 h4, ne-eqb code 5 h5, ne-eqb code 6 h6, ne-eqb code 7 h7, ne-eqb code 9 h9, ne-eqb code 12 h12)
-        (plainly e h)
+      (plainly e h)
 
 module _ (img tab : List ℕ) (M S f b : ℕ) {code x y a : ℕ} {t : List ℕ} (c : code ≡ getD tab (f + 0) 0) (e : (x ≡ a) × (y ≡ 0)) where
   pub does-5 : code ≡ 5 → out a 0 [] t ≡ left [] tab f (settled rewind) → out x y img t ≡ left img tab f (settled (perform img tab M S f b))

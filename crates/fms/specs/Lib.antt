@@ -1,2 +1,3 @@
--- The call in steps, as the code makes them.
+-- The call in steps, as the code makes them, and what is promised of it.
 pub mod Steps
+pub mod Promises

@@ -12,23 +12,22 @@ use cells::put;
 use codes::is_served;
 use codes::misfit_of;
 use codes::takes;
-use disk::shape_of;
 use disk::Shaped;
-use stub::delete;
-use stub::next_slot;
-use stub::open_directory;
-use stub::open_read;
-use stub::open_write;
-use stub::read_sector;
-use stub::rename;
-use stub::rewind;
+use disk::shape_of;
+use files::delete;
+use files::next_slot;
+use files::open_directory;
+use files::open_read;
+use files::open_write;
+use files::read_sector;
+use files::rename;
+use files::rewind;
+use transfer::Given;
 use transfer::close;
 use transfer::read;
 use transfer::write;
-use transfer::Given;
 
 mod codes;
-mod stub;
 
 // What a call gives back: 0 or the number of the refusal, and the byte that reading returns.
 pub struct Reply {
