@@ -1,3 +1,7 @@
 -- Laws of the definitions of `rules`, which proofs cite.
 pub mod Tests
 pub mod Bytes
+pub mod Each
+pub mod Small
+pub mod Stores
+pub mod Addresses
