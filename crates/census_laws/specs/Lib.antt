@@ -1,0 +1,2 @@
+-- Laws of the census's definitions, which the proofs of its code cite.
+pub mod Count

@@ -1,0 +1,1 @@
+// Laws of the census: see specs/. No function stands here.
