@@ -1,6 +1,6 @@
 -- Shape, addresses (track, sector) and indices of sectors, and the way between them. The only arithmetic that is not linear stands here.
-use mathlib.Core.Path.{_≡_, refl, sym, ap, _∙_, subst}
-use mathlib.Core.Bool.{Bool, true, false}
+use mathlib.Core.Path.{_≡_, sym, ap, _∙_}
+use mathlib.Core.Bool.{true}
 use mathlib.Core.List.{List}
 use Prim.Native.Nat.{ℕ, _+_, _-_, _*_, _/_, _%_, _≤_, _<_}
 use native.Mathlib.Nat.{div-add-mod', mod-lt, mul-le-mul, mul-le-mul-right, div-lt-iff-lt-mul, le-div-iff-mul-le}
@@ -9,7 +9,7 @@ use lib.Arith.{digits-lt, digits-div, digits-mod}
 use lib.ListN.{length}
 use lib.Dec.{eqb, leb}
 use borrow.Author.Tests.{leb-true, le-leb, eqb-true, eq-eqb}
-use Rattle.rules.specs.Bytes.{pick, within}
+use Rattle.rules.specs.Bytes.{within}
 use Rattle.rules.specs.Image.{mostTracks, mostSectors, lastTrack, perTrack, shapeRight, trackOf, sectorOf, index, isSector, isData, dataNumber}
 use Rattle.rules.specs.Directory.{isDirectory}
 use Rattle.laws.specs.Tests.{both, within-is, within-true}

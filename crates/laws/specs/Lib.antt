@@ -5,3 +5,4 @@ pub mod Each
 pub mod Small
 pub mod Stores
 pub mod Addresses
+pub mod Slots
