@@ -1,0 +1,2 @@
+-- What the code loads from an image, as structs.
+pub mod Loaded
