@@ -2,4 +2,5 @@
 pub mod Count
 pub mod Stored
 pub mod Walks
+pub mod Visits
 pub mod Numbers
