@@ -5,8 +5,9 @@ use mathlib.Core.List.{List, [], _∷_, _++_}
 use Prim.Native.Nat.{ℕ, zero, suc, _+_, _-_, _*_, _≤_, _<_}
 use native.Mathlib.Omega.{arith}
 use native.Mathlib.Decide.{ℕ-discrete, decLt}
-use lib.ListN.{length, getD, set, length-set, length-append}
-use lib.Seq.{getD-set-same, getD-set-other}
+use native.Mathlib.Numerals.{add-one}
+use lib.ListN.{length, getD, set, drop, replicate, length-set, drop-of-length-le}
+use lib.Seq.{getD-set-same, getD-set-other, drop-cons}
 use lib.Dec.{eqb, ltb, leb}
 use borrow.Author.Tests.{eq-eqb, ne-eqb, eqb-true, eqb-false, lt-ltb, le-ltb, ltb-true, ltb-false}
 use Rattle.rules.specs.Bytes.{pick, zeros}
@@ -137,6 +138,60 @@ newcomers ms (x ∷ xs) =
     (pick (eqb (getD ms x 0) 0) (newcomers (set ms x 1) xs) false)
     false
 
+-- the same with the marks that are left
+pub data Marked : Type 0 where
+  marked : Bool → List ℕ → Marked
+
+unfoldable pub marking : List ℕ → List ℕ → Marked
+marking ms [] = marked true ms
+marking ms (x ∷ xs) =
+    pick (ltb x (length ms))
+    (pick (eqb (getD ms x 0) 0) (marking (set ms x 1) xs) (marked false ms))
+    (marked false ms)
+
+-- turn by turn
+module _ (ms xs : List ℕ) (i : ℕ) {w : Marked} {x : ℕ} (v : w ≡ marking ms (drop i xs)) (h : i < length xs) (e : x ≡ getD xs i 0) where
+  mark-more : w ≡ marking ms (x ∷ drop (i + 1) xs)
+  mark-more = v ∙ ap (marking ms) (rw (e, add-one i) (drop-cons xs i 0 h))
+
+  pub mark-large : length ms ≤ x → marked false ms ≡ w
+  unfolding marking
+  mark-large k = rw (mark-more, le-ltb x (length ms) k) refl
+
+  pub mark-twice : x < length ms → (getD ms x 0 ≡ 0 → ⊥) → marked false ms ≡ w
+  unfolding marking
+  mark-twice k z = rw (mark-more, lt-ltb x (length ms) k, ne-eqb (getD ms x 0) 0 z) refl
+
+  pub mark-on : x < length ms → getD ms x 0 ≡ 0 → w ≡ marking (set ms x 1) (drop (i + 1) xs)
+  unfolding marking
+  mark-on k z = rw (mark-more, lt-ltb x (length ms) k, eq-eqb (getD ms x 0) 0 z) refl
+
+pub mark-end : (ms xs : List ℕ) (i : ℕ) {w : Marked} → w ≡ marking ms (drop i xs) → length xs ≤ i → marked true ms ≡ w
+unfolding marking
+mark-end ms xs i v h = rw (v, drop-of-length-le xs h) refl
+
+-- with all marks cleared first
+pub mark-cleared : (ms ms₀ xs : List ℕ) {w : Marked} → w ≡ marking ms xs → ms ≡ replicate (length ms₀) 0 → w ≡ marking (zeros (length ms₀)) xs
+unfolding zeros
+mark-cleared ms ms₀ xs v e = v ∙ ap (λ (l : List ℕ). marking l xs) e
+
+-- the marks are as many as before
+pub record Marks (ms : List ℕ) (b : Bool) (w : Marked) : Type 0 where
+  pub after : List ℕ
+  pub is : w ≡ marked b after
+  pub kept : length after ≡ length ms
+
+pub marking-is : (ms xs : List ℕ) → Marks ms (newcomers ms xs) (marking ms xs)
+unfolding newcomers marking
+marking-is ms [] = record { after = ms; is = refl; kept = refl }
+marking-is ms (x ∷ xs) = go (ltb x (length ms)) (eqb (getD ms x 0) 0) (marking-is (set ms x 1) xs)
+  where
+    go : (b c : Bool) → Marks (set ms x 1) (newcomers (set ms x 1) xs) (marking (set ms x 1) xs)
+        → Marks ms (pick b (pick c (newcomers (set ms x 1) xs) false) false) (pick b (pick c (marking (set ms x 1) xs) (marked false ms)) (marked false ms))
+    go true true r = record { after = r .after; is = r .is; kept = r .kept ∙ length-set ms x 1 }
+    go true false r = record { after = ms; is = refl; kept = refl }
+    go false c r = record { after = ms; is = refl; kept = refl }
+
 -- 1 where there is a mark
 unfoldable used : List ℕ → ℕ → ℕ
 used ms k = pick (eqb (getD ms k 0) 0) 0 1
@@ -210,3 +265,7 @@ new-once n xs e =
       (full-once n xs (λ k b. omega (arith, r .1 k)) (omega (arith, ap (λ (m : ℕ). below m xs) (length-zeros n), r .0))))
     (λ h. new-true (zeros n) xs (omega (arith, ap (λ (m : ℕ). below m xs) (length-zeros n), once-below n xs h))
       (λ k. omega (arith, used-none n k, once-most n xs h e k)))
+
+-- the same as the code has it
+pub marking-once : (n : ℕ) (xs : List ℕ) → length xs ≡ n → Marks (zeros n) (eachOnce n xs) (marking (zeros n) xs)
+marking-once n xs e = rw (← (new-once n xs e)) (marking-is (zeros n) xs)

@@ -32,3 +32,7 @@ module _ (m d : List ℕ) (at n i v : ℕ) (e : d ≡ over m at (take i (replica
 
   pub run-all : n ≤ i → d ≡ over m at (replicate n v)
   run-all h = over-all m (replicate n v) d at i e (rw length-replicate h)
+
+-- all of an output
+pub run-whole : (m d : List ℕ) (v : ℕ) → d ≡ over m 0 (replicate (length m) v) → d ≡ replicate (length m) v
+run-whole m d v e = e ∙ over-exact m (replicate (length m) v) (length-replicate (length m) v)
