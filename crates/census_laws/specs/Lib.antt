@@ -1,4 +1,5 @@
 -- Laws of the census's definitions, which the proofs of its code cite.
+pub mod Turns
 pub mod Count
 pub mod Stored
 pub mod Walks

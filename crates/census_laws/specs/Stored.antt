@@ -3,9 +3,9 @@ use mathlib.Core.Path.{_≡_, refl, sym, ap, _∙_}
 use mathlib.Core.List.{List, [], _∷_, _++_}
 use Prim.Native.Nat.{ℕ, zero, suc, _+_, _-_, _≤_, _<_}
 use native.Mathlib.Omega.{arith}
-use lib.ListN.{length, getD, set, take, replicate, length-replicate, getD-replicate}
+use lib.ListN.{length, set, take, replicate, length-replicate, getD-replicate}
 use Rattle.rules.specs.Bytes.{over, one}
-use Rattle.laws.specs.Bytes.{over-append, length-one, over-more, over-full, over-all}
+use Rattle.laws.specs.Bytes.{over-append, over-more, over-full, over-all, length-over}
 
 -- a run that is as long as the output takes its place
 pub over-exact : (m vs : List ℕ) → length vs ≡ length m → over m 0 vs ≡ vs
@@ -36,3 +36,7 @@ module _ (m d : List ℕ) (at n i v : ℕ) (e : d ≡ over m at (take i (replica
 -- all of an output
 pub run-whole : (m d : List ℕ) (v : ℕ) → d ≡ over m 0 (replicate (length m) v) → d ≡ replicate (length m) v
 run-whole m d v e = e ∙ over-exact m (replicate (length m) v) (length-replicate (length m) v)
+
+-- an output keeps its length
+pub over-kept : (m₀ m d : List ℕ) (at : ℕ) (vs : List ℕ) → d ≡ over m at vs → length m ≡ length m₀ → length d ≡ length m₀
+over-kept m₀ m d at vs e k = ap length e ∙ length-over m at vs ∙ k

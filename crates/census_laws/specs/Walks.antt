@@ -13,6 +13,7 @@ use Rattle.rules.specs.Directory.{live, startAt, endAt, sizeAt}
 use Rattle.rules.specs.Census.{runsOut, chainRight, numbersFrom, fileRight, filesRight, fileNumbers, filesNumbers}
 use Rattle.laws.specs.Tests.{never, both}
 use Rattle.laws.specs.Bytes.{over-none, over-append, length-over}
+use Rattle.census_laws.specs.Turns.{one-left, none-left}
 use Rattle.census_laws.specs.Stored.{over-cons}
 use Rattle.census_laws.specs.declared.Listing.{Listing}
 use Rattle.census_laws.specs.declared.Listing.the-variants.{Upto, Wrong}
@@ -47,6 +48,45 @@ file img M S slot out at = pick (live img slot) (chainAt img M S slot out at) (l
 unfoldable pub files : List ℕ → ℕ → ℕ → List ℕ → List ℕ → ℕ → Laid
 files img M S [] out at = laid (Upto at) out
 files img M S (o ∷ os) out at = onLaid (file img M S o out at) (λ out′ n. files img M S os out′ n)
+
+-- ---- turn by turn: w is what the walk comes to
+module _ (img : List ℕ) (M S end n before a : ℕ) (out : List ℕ) (at : ℕ) {w : Laid} (v : w ≡ walk img M S end n before a out at) where
+  walk-more : 0 < n
+      → w ≡ pick (isData M S a)
+      (walk img M S end (n - 1) a (linkOf img (index S a)) (over out at (one (dataNumber S (index S a)))) (at + 1)) (laid Wrong out)
+  unfolding walk
+  walk-more h = v ∙ ap (λ (j : ℕ). walk img M S end j before a out at) (one-left n h)
+
+  pub walk-bad : {b : Bool} → 0 < n → b ≡ isData M S a → b ≡ false → laid Wrong out ≡ w
+  walk-bad h e k = rw (walk-more h, ← e, k) refl
+
+  pub walk-on : {b : Bool} {k x next : ℕ} {out′ : List ℕ} → 0 < n → b ≡ isData M S a → b ≡ true → k ≡ index S a → x ≡ dataNumber S k
+      → out′ ≡ over out at (one x) → next ≡ linkOf img k → w ≡ walk img M S end (n - 1) a next out′ (at + 1)
+  walk-on h e t p q r l = rw (walk-more h, ← e, t, r, q, l, p) refl
+
+  walk-none : n ≤ 0 → w ≡ laid (pick (eqb a 0) (pick (eqb before end) (Upto at) Wrong) Wrong) out
+  unfolding walk
+  walk-none h = v ∙ ap (λ (j : ℕ). walk img M S end j before a out at) (none-left n h)
+
+  pub walk-further : n ≤ 0 → (a ≡ 0 → ⊥) → laid Wrong out ≡ w
+  walk-further h k = rw (walk-none h, ne-eqb a 0 k) refl
+
+  pub walk-elsewhere : n ≤ 0 → a ≡ 0 → (before ≡ end → ⊥) → laid Wrong out ≡ w
+  walk-elsewhere h k l = rw (walk-none h, eq-eqb a 0 k, ne-eqb before end l) refl
+
+  pub walk-done : n ≤ 0 → a ≡ 0 → before ≡ end → laid (Upto at) out ≡ w
+  walk-done h k l = rw (walk-none h, eq-eqb a 0 k, eq-eqb before end l) refl
+
+-- a chain by its slot, from what was loaded
+module _ (img : List ℕ) (M S slot : ℕ) (out : List ℕ) (at : ℕ) {start end count most : ℕ} (p : start ≡ startAt img slot) (q : end ≡ endAt img slot)
+    (r : count ≡ sizeAt img slot) (m : most ≡ M * S) where
+  pub chain-long : most < count → laid Wrong out ≡ chainAt img M S slot out at
+  unfolding chainAt chain
+  chain-long h = rw (lt-leb (sizeAt img slot) (M * S) (omega arith)) refl
+
+  pub chain-walked : {w : Laid} → count ≤ most → w ≡ walk img M S end count 0 start out at → w ≡ chainAt img M S slot out at
+  unfolding chainAt chain
+  chain-walked h e = rw (le-leb (sizeAt img slot) (M * S) (omega arith), e, p, q, r) refl
 
 -- ---- what that comes to: these numbers from a place on, if the test holds; else an output of the same length
 pub record Lists (b : Bool) (xs out : List ℕ) (at : ℕ) (l : Laid) : Type 0 where
