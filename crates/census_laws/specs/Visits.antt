@@ -8,6 +8,7 @@ use lib.Dec.{ltb}
 use borrow.Author.Tests.{lt-ltb, le-ltb}
 use Rattle.rules.specs.Bytes.{pick}
 use Rattle.rules.specs.Directory.{nextOf, onNext, mostOfDirectory, firstOfDirectory, sectorsFrom, directory, slotsAt, firstSlotOf, slotsOf, slots, slotBehind}
+use Rattle.census_laws.specs.Turns.{one-left, none-left}
 use Rattle.rules.specs.declared.Next.{Next}
 use Rattle.rules.specs.declared.Next.the-variants.{End, To, Astray}
 use Rattle.rules.specs.declared.Lookup.{Lookup}
@@ -78,3 +79,31 @@ sectors-visits img S (suc n) k =
 pub slots-visits : (img : List ℕ) (S : ℕ) → slots img S ≡ visits img S (mostSlots S) firstSlot
 unfolding directory
 slots-visits img S = sym (sectors-visits img S (mostOfDirectory S) firstOfDirectory)
+
+-- ---- turn by turn: a slot is visited, and those behind it
+visits-more : (img : List ℕ) (S n o : ℕ) {l : Lookup} → 0 < n → l ≡ slotBehind img S o
+    → visits img S n o ≡ o ∷ onThere l [] (λ p. visits img S (n - 1) p)
+unfolding visits
+visits-more img S n o h e = ap (λ (j : ℕ). visits img S j o) (one-left n h) ∙ rw e refl
+
+visits-none : (img : List ℕ) (S n o : ℕ) → n ≤ 0 → visits img S n o ≡ []
+unfolding visits
+visits-none img S n o h = ap (λ (j : ℕ). visits img S j o) (none-left n h)
+
+-- a pass over the slots, by what it makes of none and of the next
+module _ {A : Type 0} (pass : List ℕ → A) (img : List ℕ) (S n o : ℕ) {w : A} (v : w ≡ pass (visits img S n o)) where
+  pub pass-none : n ≤ 0 → pass [] ≡ w
+  pass-none h = rw (v, visits-none img S n o h) refl
+
+  pub pass-here : 0 < n → w ≡ pass (o ∷ onThere (slotBehind img S o) [] (λ p. visits img S (n - 1) p))
+  pass-here h = v ∙ ap pass (visits-more img S n o h refl)
+
+  module _ {l : Lookup} (h : 0 < n) (e : l ≡ slotBehind img S o) where
+    pub pass-next : {p : ℕ} → l ≡ At p → w ≡ pass (o ∷ visits img S (n - 1) p)
+    pass-next k = rw (v, visits-more img S n o h e, k) refl
+
+    pub pass-last : l ≡ Missing → w ≡ pass (o ∷ [])
+    pass-last k = rw (v, visits-more img S n o h e, k) refl
+
+    pub pass-broken : l ≡ Broken → w ≡ pass (o ∷ [])
+    pass-broken k = rw (v, visits-more img S n o h e, k) refl
