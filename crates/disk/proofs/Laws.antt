@@ -2,12 +2,12 @@
 use mathlib.Core.Path.{_≡_, refl, ap, _∙_}
 use mathlib.Core.Bool.{Bool, true, false}
 use mathlib.Core.List.{List}
-use Prim.Native.Nat.{ℕ, _+_, _*_, _≤_}
+use Prim.Native.Nat.{ℕ, _+_, _*_, _≤_, _<_}
 use native.Mathlib.Nat.{mul-le-mul}
 use native.Mathlib.Omega.{arith}
 use lib.ListN.{length, getD}
 use lib.Dec.{eqb}
-use borrow.Author.Tests.{le-leb}
+use borrow.Author.Tests.{le-leb, lt-leb}
 use Rattle.rules.specs.Bytes.{pick, within, over, two}
 use Rattle.rules.specs.Stores.{stored}
 use Rattle.rules.specs.Image.{shapeRight}
@@ -20,9 +20,34 @@ use Rattle.disk.specs.declared.Shaped.the-variants.{Right, Wrong}
 pub product : (x y : ℕ) → x ≤ 256 → y ≤ 255 → x * y ≤ 65280
 product x y h k = mul-le-mul h k
 
-pub shape-length : (n M S k : ℕ) → 552 ≤ n → 1 ≤ M → M ≤ 79 → 5 ≤ S → S ≤ 36 → k ≡ (M + 1) * S → eqb n (k * 256) ≡ isShape n M S
-unfolding isShape within
-shape-length n M S k a b d e f h = rw (le-leb 552 n a, le-leb 1 M b, le-leb M 79 d, le-leb 5 S e, le-leb S 36 f, h) refl
+-- the shape's tests in their order: each limit that is broken, then the length
+pub too-short : (n M S : ℕ) → n < 552 → false ≡ isShape n M S
+unfolding isShape
+too-short n M S h = rw (lt-leb 552 n h) refl
+
+module _ (n M S : ℕ) (a : 552 ≤ n) where
+  pub no-track : M < 1 → false ≡ isShape n M S
+  unfolding isShape within
+  no-track h = rw (le-leb 552 n a, lt-leb 1 M h) refl
+
+  module _ (b : 1 ≤ M) where
+    pub many-tracks : 79 < M → false ≡ isShape n M S
+    unfolding isShape within
+    many-tracks h = rw (le-leb 552 n a, le-leb 1 M b, lt-leb M 79 h) refl
+
+    module _ (d : M ≤ 79) where
+      pub few-sectors : S < 5 → false ≡ isShape n M S
+      unfolding isShape within
+      few-sectors h = rw (le-leb 552 n a, le-leb 1 M b, le-leb M 79 d, lt-leb 5 S h) refl
+
+      module _ (e : 5 ≤ S) where
+        pub many-sectors : 36 < S → false ≡ isShape n M S
+        unfolding isShape within
+        many-sectors h = rw (le-leb 552 n a, le-leb 1 M b, le-leb M 79 d, le-leb 5 S e, lt-leb S 36 h) refl
+
+        pub by-length : {k : ℕ} → S ≤ 36 → k ≡ (M + 1) * S → eqb n (k * 256) ≡ isShape n M S
+        unfolding isShape within
+        by-length f h = rw (le-leb 552 n a, le-leb 1 M b, le-leb M 79 d, le-leb 5 S e, le-leb S 36 f, h) refl
 
 module _ (img : List ℕ) {r : Bool} {M S : ℕ} (e : r ≡ isShape (length img) M S) (m : M ≡ getD img 550 0) (s : S ≡ getD img 551 0) where
   is-right : r ≡ shapeRight img

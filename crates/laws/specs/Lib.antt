@@ -6,3 +6,5 @@ pub mod Small
 pub mod Stores
 pub mod Addresses
 pub mod Slots
+pub mod Single
+pub mod Walk
