@@ -229,9 +229,10 @@ new-is ms [] h = (refl, λ k. omega (arith, used-most ms k))
 new-is ms (x ∷ xs) h =
     let a : (ltb x (length ms) ≡ true) × (pick (eqb (getD ms x 0) 0) (newcomers (set ms x 1) xs) false ≡ true) = both _ _ h in
     let b : (eqb (getD ms x 0) 0 ≡ true) × (newcomers (set ms x 1) xs ≡ true) = both _ _ (a .1) in
-    let r : (below (length (set ms x 1)) xs ≡ length xs) × ((k : ℕ) → used (set ms x 1) k + tally k xs ≤ 1) = new-is (set ms x 1) xs (b .1) in
-    (rw (a .0) (omega (arith, ap (λ (n : ℕ). below n xs) (length-set ms x 1), r .0)),
-      λ k. omega (arith, r .1 k, used-more ms x (ltb-true x (length ms) (a .0)) (eqb-true (getD ms x 0) 0 (b .0)) k))
+    let r : (below (length (set ms x 1)) xs ≡ length xs) × ((k : ℕ) → used (set ms x 1) k + tally k xs ≤ 1) = new-is (set ms x 1) xs (b .1) in (
+      rw (a .0) (omega (arith, ap (λ (n : ℕ). below n xs) (length-set ms x 1), r .0)),
+      λ k. omega (arith, r .1 k, used-more ms x (ltb-true x (length ms) (a .0)) (eqb-true (getD ms x 0) 0 (b .0)) k),
+    )
 
 new-true : (ms xs : List ℕ) → below (length ms) xs ≡ length xs → ((k : ℕ) → used ms k + tally k xs ≤ 1) → newcomers ms xs ≡ true
 unfolding newcomers below tally
@@ -247,7 +248,7 @@ new-true ms (x ∷ xs) e t = go (ltb x (length ms)) refl e (new-true (set ms x 1
     go true p q ih =
         rw (eq-eqb (getD ms x 0) 0 free)
         (ih (omega (arith, ap (λ (n : ℕ). below n xs) (length-set ms x 1)))
-          (λ k. omega (arith, t k, used-more ms x (ltb-true x (length ms) p) free k)))
+        (λ k. omega (arith, t k, used-more ms x (ltb-true x (length ms) p) free k)))
     go false p q ih = absurd (omega (arith, below-most (length ms) xs))
 
 -- what holds of both ways round is the same test
@@ -261,10 +262,10 @@ pub new-once : (n : ℕ) (xs : List ℕ) → length xs ≡ n → newcomers (zero
 new-once n xs e =
     same-test (newcomers (zeros n) xs) (eachOnce n xs)
     (λ h. let r = new-is (zeros n) xs h in
-      once-true n xs
-      (full-once n xs (λ k b. omega (arith, r .1 k)) (omega (arith, ap (λ (m : ℕ). below m xs) (length-zeros n), r .0))))
+    once-true n xs
+    (full-once n xs (λ k b. omega (arith, r .1 k)) (omega (arith, ap (λ (m : ℕ). below m xs) (length-zeros n), r .0))))
     (λ h. new-true (zeros n) xs (omega (arith, ap (λ (m : ℕ). below m xs) (length-zeros n), once-below n xs h))
-      (λ k. omega (arith, used-none n k, once-most n xs h e k)))
+    (λ k. omega (arith, used-none n k, once-most n xs h e k)))
 
 -- the same as the code has it
 pub marking-once : (n : ℕ) (xs : List ℕ) → length xs ≡ n → Marks (zeros n) (eachOnce n xs) (marking (zeros n) xs)

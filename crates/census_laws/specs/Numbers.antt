@@ -14,11 +14,7 @@ use Rattle.rules.specs.Census.{runsOut, chainRight, numbersFrom, freeRight, fil
 use Rattle.laws.specs.Tests.{both, pick-cases}
 use Rattle.laws.specs.Addresses.{data-is, number-high}
 use Rattle.census_laws.specs.Count.{below, below-append}
-
-pub numbers-length : (img : List ℕ) (S n a : ℕ) → length (numbersFrom img S n a) ≡ n
-unfolding numbersFrom
-numbers-length img S zero a = refl
-numbers-length img S (suc n) a = ap suc (numbers-length img S n (linkOf img (index S a)))
+use Rattle.census_laws.specs.Walks.{numbers-length}
 
 -- ---- each number is that of a data sector: all are below M·S
 
@@ -78,14 +74,22 @@ files-owners : (img : List ℕ) (S k : ℕ) (os : List ℕ) → length (filesOwn
 unfolding filesOwners filesNumbers
 files-owners img S k [] = refl
 files-owners img S k (o ∷ os) =
-    omega
-    (arith, length-append (fileOwners img o k) (filesOwners img (k + 1) os), length-append (fileNumbers img S o) (filesNumbers img S os), file-owners img S o k,
-    files-owners img S (k + 1) os)
+    omega (
+      arith,
+      length-append (fileOwners img o k) (filesOwners img (k + 1) os),
+      length-append (fileNumbers img S o) (filesNumbers img S os),
+      file-owners img S o k,
+      files-owners img S (k + 1) os,
+    )
 
 pub owners-length : (img : List ℕ) (S : ℕ) → length (owners img S) ≡ length (listed img S)
 unfolding owners listed
 owners-length img S =
-    omega
-    (arith, length-append (replicate (freeCount img) 0) (filesOwners img 1 (slots img S)),
-    length-append (numbersFrom img S (freeCount img) (firstFree img)) (filesNumbers img S (slots img S)), length-replicate {A = ℕ} (freeCount img) 0,
-    numbers-length img S (freeCount img) (firstFree img), files-owners img S 1 (slots img S))
+    omega (
+      arith,
+      length-append (replicate (freeCount img) 0) (filesOwners img 1 (slots img S)),
+      length-append (numbersFrom img S (freeCount img) (firstFree img)) (filesNumbers img S (slots img S)),
+      length-replicate {A = ℕ} (freeCount img) 0,
+      numbers-length img S (freeCount img) (firstFree img),
+      files-owners img S 1 (slots img S),
+    )

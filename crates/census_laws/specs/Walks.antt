@@ -6,12 +6,12 @@ use Prim.Native.Nat.{ℕ, zero, suc, _+_, _-_, _*_, _≤_, _<_}
 use native.Mathlib.Omega.{arith}
 use lib.ListN.{length, length-append}
 use lib.Dec.{eqb, leb}
-use borrow.Author.Tests.{le-leb, lt-leb, eq-eqb, ne-eqb}
+use borrow.Author.Tests.{le-leb, lt-leb, leb-true, eq-eqb, ne-eqb}
 use Rattle.rules.specs.Bytes.{pick, over, one}
 use Rattle.rules.specs.Image.{index, isData, dataNumber, linkOf}
 use Rattle.rules.specs.Directory.{live, startAt, endAt, sizeAt}
 use Rattle.rules.specs.Census.{runsOut, chainRight, numbersFrom, fileRight, filesRight, fileNumbers, filesNumbers}
-use Rattle.laws.specs.Tests.{never, both}
+use Rattle.laws.specs.Tests.{clash, never, both}
 use Rattle.laws.specs.Bytes.{over-none, over-append, length-over}
 use Rattle.census_laws.specs.Turns.{one-left, none-left}
 use Rattle.census_laws.specs.Stored.{over-cons}
@@ -21,6 +21,12 @@ use Rattle.census_laws.specs.declared.Listing.the-variants.{Upto, Wrong}
 -- a pass's answer, and the output that it leaves
 pub data Laid : Type 0 where
   laid : Listing → List ℕ → Laid
+
+abbrev pub answerOf : Laid → Listing
+answerOf (laid r out) = r
+
+out-is : {r q : Listing} {out out′ : List ℕ} → laid r out ≡ laid q out′ → out ≡ out′
+out-is e = cc
 
 -- on from where a pass ended
 abbrev pub onLaid : Laid → (List ℕ → ℕ → Laid) → Laid
@@ -107,7 +113,8 @@ lists-cons b x xs out at l h =
       after = h .after;
       is = h .is ∙ ap (λ (n : ℕ). laid (pick b (Upto n) Wrong) (h .after)) (omega arith);
       kept = h .kept ∙ length-over out at (one x);
-      right = λ k. h .right k ∙ sym (over-cons out at x xs) }
+      right = λ k. h .right k ∙ sym (over-cons out at x xs);
+    }
 
 lists-then : (b c : Bool) (xs ys out : List ℕ) (at : ℕ) (l : Laid) (f : List ℕ → ℕ → Laid) → Lists b xs out at l
     → ((out′ : List ℕ) (n : ℕ) → Lists c ys out′ n (f out′ n)) → Lists (pick b c false) (xs ++ ys) out at (onLaid l f)
@@ -116,17 +123,24 @@ lists-then true c xs ys out at l f h g =
     record {
       after = r .after;
       is =
-        ap (λ (k : Laid). onLaid k f) (h .is)
-        ∙ r .is
-        ∙ ap (λ (n : ℕ). laid (pick c (Upto n) Wrong) (r .after)) (omega (arith, length-append xs ys));
+          ap (λ (k : Laid). onLaid k f) (h .is)
+          ∙ r .is
+          ∙ ap (λ (n : ℕ). laid (pick c (Upto n) Wrong) (r .after)) (omega (arith, length-append xs ys));
       kept = r .kept ∙ h .kept;
-      right = λ k. r .right k ∙ ap (λ (m : List ℕ). over m (at + length xs) ys) (h .right refl) ∙ sym (over-append out at xs ys) }
+      right = λ k. r .right k ∙ ap (λ (m : List ℕ). over m (at + length xs) ys) (h .right refl) ∙ sym (over-append out at xs ys);
+    }
 lists-then false c xs ys out at l f h g =
     record {
       after = h .after;
       is = ap (λ (k : Laid). onLaid k f) (h .is);
       kept = h .kept;
-      right = λ k. absurd (never k) }
+      right = λ k. absurd (never k);
+    }
+
+pub numbers-length : (img : List ℕ) (S n a : ℕ) → length (numbersFrom img S n a) ≡ n
+unfolding numbersFrom
+numbers-length img S zero a = refl
+numbers-length img S (suc n) a = ap suc (numbers-length img S n (linkOf img (index S a)))
 
 module _ (img : List ℕ) (M S : ℕ) where
   pub walk-lists : (end n before a : ℕ) (out : List ℕ) (at : ℕ)
@@ -182,3 +196,27 @@ module _ (img : List ℕ) (M S : ℕ) where
   files-lists (o ∷ os) out at =
       lists-then (fileRight img M S o) (filesRight img M S os) (fileNumbers img S o) (filesNumbers img S os) out at (file img M S o out at)
       (λ out′ n. files img M S os out′ n) (file-lists o out at) (λ out′ n. files-lists os out′ n)
+
+  -- the output keeps its length, and a list that is right goes on by at most M·S
+  pub file-kept : (o : ℕ) (out out′ : List ℕ) (at : ℕ) {r : Listing} → laid r out′ ≡ file img M S o out at → length out′ ≡ length out
+  file-kept o out out′ at e =
+      let f = file-lists o out at in
+      let q : out′ ≡ f .after = out-is (e ∙ f .is) in
+      ap length q ∙ f .kept
+
+  file-most : (o : ℕ) → fileRight img M S o ≡ true → length (fileNumbers img S o) ≤ M * S
+  unfolding fileRight fileNumbers chainRight
+  file-most o = go (live img o)
+    where
+      go : (b : Bool) → pick b (pick (leb (sizeAt img o) (M * S)) (runsOut img M S (endAt img o) (sizeAt img o) 0 (startAt img o)) false) true ≡ true
+          → length (pick b (numbersFrom img S (sizeAt img o) (startAt img o)) []) ≤ M * S
+      go true h =
+          omega (arith, leb-true (sizeAt img o) (M * S) (both (leb (sizeAt img o) (M * S)) _ h .0), numbers-length img S (sizeAt img o) (startAt img o))
+      go false h = omega arith
+
+  pub file-place : (o : ℕ) (out out′ : List ℕ) (at m : ℕ) {r : Listing} → laid r out′ ≡ file img M S o out at → r ≡ Upto m → m ≤ at + M * S
+  file-place o out out′ at m e t = go (fileRight img M S o) refl (sym t ∙ ap answerOf (e ∙ file-lists o out at .is))
+    where
+      go : (b : Bool) → fileRight img M S o ≡ b → Upto m ≡ pick b (Upto (at + length (fileNumbers img S o))) Wrong → m ≤ at + M * S
+      go true h q = let z : m ≡ at + length (fileNumbers img S o) = cc in omega (arith, file-most o h)
+      go false h q = clash (cc)

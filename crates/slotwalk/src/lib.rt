@@ -3,65 +3,20 @@ ghost use mathlib.Core.Path.{_≡_};
 ghost use Prim.Native.Nat.{_*_, _≤_};
 ghost use mathlib.Core.Bool.{false};
 ghost use Rattle.rules.specs.Bytes.{pick, part, over, same};
-ghost use Rattle.rules.specs.Directory.{stepTo, live, neverUsed, slots, slotBehind, sizeAt};
+ghost use Rattle.rules.specs.Directory.{live, neverUsed, slots, sizeAt};
 ghost use Rattle.rules.specs.Census.{anyLive, holed, namesake, twins, filesOwners};
 ghost use Rattle.census_laws.specs.Visits.{visits, mostSlots};
 ghost use Rattle.census_laws.specs.Walks.{laid, file, files};
 use cells::get;
 use cells::get2;
-use cells::get_in;
 use census_laws::Listing;
 use chainwalk::chain_at;
-use disk::index_of;
+use directory::is_live;
+use directory::most_of;
+use directory::same_name;
+use directory::slot_behind;
 use outputs::run;
 use rules::Lookup;
-use rules::Next;
-
-// What a link to this address says.
-fn step_to(per: u8, a: u16) -> Next
-    ensures { λ r. ⌜ r ≡ stepTo per a ⌝ }
-{
-    if a == 0 {
-        return Next::End;
-    }
-    if a / 256 % 256 != 0 {
-        return Next::Astray;
-    }
-    if a % 256 < 5 {
-        return Next::Astray;
-    }
-    if a % 256 > per as u16 {
-        return Next::Astray;
-    }
-    Next::To(index_of(per, a))
-}
-
-// The slot behind a slot.
-fn slot_behind(image: &[u8], per: u8, slot: u32) -> Lookup
-    ensures { λ r. ⌜ r ≡ slotBehind (now (image .entry)) per slot ⌝ }
-{
-    if slot % 256 < 232 {
-        return Lookup::At(slot + 24);
-    }
-    let a = get2(image, 256 * (slot as usize / 256));
-    let next = step_to(per, a);
-    match next {
-        Next::End => Lookup::Missing,
-        Next::Astray => Lookup::Broken,
-        Next::To(k) => Lookup::At(256 * k as u32 + 16),
-    }
-}
-
-// Is a slot live?
-fn is_live(image: &[u8], slot: u32) -> bool
-    ensures { λ r. ⌜ r ≡ live (now (image .entry)) slot ⌝ }
-{
-    let b = get(image, slot as usize);
-    if b == 0 {
-        return false;
-    }
-    b < 128
-}
 
 // Was it never used?
 fn is_new(image: &[u8], slot: u32) -> bool
@@ -75,10 +30,7 @@ fn is_new(image: &[u8], slot: u32) -> bool
 fn most_slots(per: u8) -> u16
     ensures { λ r. ⌜ (r ≡ mostSlots per) × (r ≤ 2510) ⌝ }
 {
-    if per < 4 {
-        return 0;
-    }
-    10 * (per as u16 - 4)
+    10 * most_of(per) as u16
 }
 
 // Is one of so many slots live, from a slot on?
@@ -125,24 +77,6 @@ pub fn is_holed(image: &[u8], per: u8) -> bool
         left -= 1;
     }
     false
-}
-
-// Are a slot's first eleven bytes those at a place of the table?
-fn same_name(image: &[u8], slot: u32, table: &[u8], at: usize) -> bool
-    ensures { λ r. ⌜ r ≡ same (part (now (image .entry)) slot 11) (part (now (table .entry)) at 11) ⌝ }
-{
-    let mut i = 0usize;
-    let mut left = 11u8;
-    while left > 0 {
-        let a = get_in(image, slot as usize, i);
-        let b = get_in(table, at, i);
-        if a != b {
-            return false;
-        }
-        i += 1;
-        left -= 1;
-    }
-    true
 }
 
 // Is a slot live with the name of this one?

@@ -1,30 +1,12 @@
 use borrow.Author.Needs.{needs}
+use borrow.Author.Tests.{not-true, not-false}
+use Rattle.slotwalk.proofs.Laws.{if-dead, if-live}
 use Rattle.slotwalk.proofs.held.Statement.{statement}
 use Rattle.slotwalk.proofs.held.Tie as tie
-use Rattle.slotwalk.proofs.held.Reads as reads
-use Rattle.slotwalk.proofs.held.Lts as lts
-use Rattle.cells.proofs.get2.Reads as get2-reads
-use Rattle.slotwalk.proofs.is_live.Reads as is-live-reads
-
--- src/lib.rt:255:9
-is-live-requires : tie.Need-is-live-requires
-is-live-requires c κs = search needs
-
--- src/lib.rt:257:9
-returns : tie.Need-returns
-returns c = ?
-
--- src/lib.rt:259:17
-add-get2 : tie.Need-add-get2
-add-get2 c = search needs
-
--- src/lib.rt:259:5
-get2-requires : tie.Need-get2-requires
-get2-requires c κs = search needs
-
--- src/lib.rt:252:1
-returns-2 : tie.Need-returns-2
-returns-2 c = ?
 
 pub held-spec : {M : Type 1} → statement M
-held-spec = tie.close (tie.spec is-live-requires returns add-get2 get2-requires returns-2)
+held-spec =
+    tie.close
+    (tie.spec
+    (λ c κs. search needs) (λ c. search (if-dead, not-true)) (λ c. search needs) (λ c κs. search needs)
+    (λ c. search (if-live, not-false)))
