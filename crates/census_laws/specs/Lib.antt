@@ -5,3 +5,4 @@ pub mod Stored
 pub mod Walks
 pub mod Visits
 pub mod Numbers
+pub mod Whole

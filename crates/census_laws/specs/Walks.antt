@@ -22,12 +22,6 @@ use Rattle.census_laws.specs.declared.Listing.the-variants.{Upto, Wrong}
 pub data Laid : Type 0 where
   laid : Listing → List ℕ → Laid
 
-abbrev pub answerOf : Laid → Listing
-answerOf (laid r out) = r
-
-out-is : {r q : Listing} {out out′ : List ℕ} → laid r out ≡ laid q out′ → out ≡ out′
-out-is e = cc
-
 -- on from where a pass ended
 abbrev pub onLaid : Laid → (List ℕ → ℕ → Laid) → Laid
 onLaid (laid (Upto n) out) f = f out n
@@ -100,6 +94,31 @@ pub record Lists (b : Bool) (xs out : List ℕ) (at : ℕ) (l : Laid) : Type 0 w
   pub is : l ≡ laid (pick b (Upto (at + length xs)) Wrong) after
   pub kept : length after ≡ length out
   pub right : b ≡ true → after ≡ over out at xs
+
+-- so where the pass answered r and left out′
+module _ {b : Bool} {xs out : List ℕ} {at : ℕ} {l : Laid} (h : Lists b xs out at l) {r : Listing} {out′ : List ℕ} (e : laid r out′ ≡ l) where
+  out-is : out′ ≡ h .after
+  out-is = let q = e ∙ h .is in cc
+
+  answer-is : r ≡ pick b (Upto (at + length xs)) Wrong
+  answer-is = let q = e ∙ h .is in cc
+
+  pub lists-kept : length out′ ≡ length out
+  lists-kept = ap length out-is ∙ h .kept
+
+  pub lists-not : r ≡ Wrong → b ≡ false
+  lists-not t = go b (sym t ∙ answer-is)
+    where
+      go : (c : Bool) → Wrong ≡ pick c (Upto (at + length xs)) Wrong → c ≡ false
+      go true q = clash (cc)
+      go false q = refl
+
+  pub lists-to : {n : ℕ} → r ≡ Upto n → (b ≡ true) × (n ≡ at + length xs) × (out′ ≡ over out at xs)
+  lists-to {n} t = go b refl (sym t ∙ answer-is)
+    where
+      go : (c : Bool) → b ≡ c → Upto n ≡ pick c (Upto (at + length xs)) Wrong → (c ≡ true) × (n ≡ at + length xs) × (out′ ≡ over out at xs)
+      go true p q = (refl, cc, out-is ∙ h .right p)
+      go false p q = clash (cc)
 
 lists-wrong : (xs out : List ℕ) (at : ℕ) → Lists false xs out at (laid Wrong out)
 lists-wrong xs out at = record { after = out; is = refl; kept = refl; right = λ h. absurd (never h) }
@@ -199,10 +218,7 @@ module _ (img : List ℕ) (M S : ℕ) where
 
   -- the output keeps its length, and a list that is right goes on by at most M·S
   pub file-kept : (o : ℕ) (out out′ : List ℕ) (at : ℕ) {r : Listing} → laid r out′ ≡ file img M S o out at → length out′ ≡ length out
-  file-kept o out out′ at e =
-      let f = file-lists o out at in
-      let q : out′ ≡ f .after = out-is (e ∙ f .is) in
-      ap length q ∙ f .kept
+  file-kept o out out′ at e = lists-kept (file-lists o out at) e
 
   file-most : (o : ℕ) → fileRight img M S o ≡ true → length (fileNumbers img S o) ≤ M * S
   unfolding fileRight fileNumbers chainRight
@@ -215,8 +231,4 @@ module _ (img : List ℕ) (M S : ℕ) where
       go false h = omega arith
 
   pub file-place : (o : ℕ) (out out′ : List ℕ) (at m : ℕ) {r : Listing} → laid r out′ ≡ file img M S o out at → r ≡ Upto m → m ≤ at + M * S
-  file-place o out out′ at m e t = go (fileRight img M S o) refl (sym t ∙ ap answerOf (e ∙ file-lists o out at .is))
-    where
-      go : (b : Bool) → fileRight img M S o ≡ b → Upto m ≡ pick b (Upto (at + length (fileNumbers img S o))) Wrong → m ≤ at + M * S
-      go true h q = let z : m ≡ at + length (fileNumbers img S o) = cc in omega (arith, file-most o h)
-      go false h q = clash (cc)
+  file-place o out out′ at m e t = let f = lists-to (file-lists o out at) e t in omega (arith, file-most o (f .0))

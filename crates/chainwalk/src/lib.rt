@@ -60,7 +60,7 @@ fn walk(
 }
 
 // How many data sectors there are.
-fn data_sectors(last: u8, per: u8) -> u16
+pub fn data_sectors(last: u8, per: u8) -> u16
     ensures { λ r. ⌜ r ≡ last * per ⌝ }
 {
     last as u16 * per as u16
