@@ -6,3 +6,4 @@ pub mod Walks
 pub mod Visits
 pub mod Numbers
 pub mod Whole
+pub mod Accepted
