@@ -8,3 +8,9 @@ pub mod Addresses
 pub mod Slots
 pub mod Single
 pub mod Walk
+pub mod Fair
+pub mod Facts
+pub mod Effects
+pub mod Counting
+pub mod Surveys
+pub mod Texts

@@ -231,7 +231,7 @@ slot-sector img S o h = each-member (λ (p : ℕ). member (p / 256) (directory i
         (each-so (λ (p : ℕ). member (p / 256) ks ≡ true) (λ (p : ℕ). member (p / 256) (k ∷ ks) ≡ true) (slotsOf ks) (λ p m. member-there (p / 256) k ks m) (all ks))
 
 -- the slot that a place names, and the place of a slot
-pub placed-is : (img : List ℕ) (S a d o : ℕ) → placed img S a d ≡ At o → OneOf img S o
+pub placed-is : (img : List ℕ) (S a d o : ℕ) → placed img S a d ≡ At o → OneOf img S o × (o ≡ 256 * index S a + d)
 unfolding placed
 placed-is img S a d o =
     pick-cases P (directoryRight img S) _ Broken
@@ -240,14 +240,14 @@ placed-is img S a d o =
     (λ m. pick-cases P (isDisplacement d) (At (256 * index S a + d)) Missing
     (λ e h. let q : 256 * index S a + d ≡ o = cc in
     let w : member o (slots img S) ≡ true = rw (← q) (slots-member (directory img S) (index S a) d m e) in
-    record { right = r; one-of = w; slot = slot-is img S o w })
+    (record { right = r; one-of = w; slot = slot-is img S o w }, sym q))
     (λ e h. clash (cc)))
     (λ m h. clash (cc)))
     (λ i h. clash (cc)))
     (λ r h. clash (cc))
   where
     P : Lookup → Type 0
-    P l = l ≡ At o → OneOf img S o
+    P l = l ≡ At o → OneOf img S o × (o ≡ 256 * index S a + d)
 
 pub placed-slot : (img : List ℕ) (S o : ℕ) → S < 256 → OneOf img S o → placed img S (o / 256 + 1) (o % 256) ≡ At o
 unfolding placed

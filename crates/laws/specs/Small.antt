@@ -6,6 +6,7 @@ use lib.ListN.{getD, set}
 use Rattle.rules.specs.Bytes.{wordAt, part, over, one, two, six, zeros}
 use Rattle.rules.specs.Directory.{placeOf}
 use Rattle.rules.specs.Transfer.{fresh}
+use Rattle.laws.specs.Each.{Each}
 
 pub record Small (m : List ℕ) : Type 0 where
   pub at : (p : ℕ) → getD m p 0 < 256
@@ -19,6 +20,11 @@ small-cons {v} {m} h s = record { at = go }
     go : (p : ℕ) → getD (v ∷ m) p 0 < 256
     go zero = h
     go (suc p) = s .at p
+
+-- of a list that is written out: `small-each vs (omega arith)`
+pub small-each : (vs : List ℕ) → Each (λ (v : ℕ). v < 256) vs → Small vs
+small-each [] h = small-nil
+small-each (v ∷ vs) h = small-cons (h .0) (small-each vs (h .1))
 
 small-tail : {v : ℕ} {m : List ℕ} → Small (v ∷ m) → Small m
 small-tail s = record { at = λ p. s .at (suc p) }
@@ -51,11 +57,11 @@ small-one v h = small-cons h small-nil
 
 pub small-two : (v : ℕ) → Small (two v)
 unfolding two
-small-two v = small-cons (omega arith) (small-cons (omega arith) small-nil)
+small-two v = small-each (two v) (omega arith)
 
 pub small-six : (x y z : ℕ) → Small (six x y z)
-unfolding six two
-small-six x y z = small-append (two x) (two y ++ two z) (small-two x) (small-append (two y) (two z) (small-two y) (small-two z))
+unfolding six
+small-six x y z = small-each (six x y z) (omega arith)
 
 pub small-zeros : (n : ℕ) → Small (zeros n)
 unfolding zeros
@@ -68,7 +74,7 @@ small-fresh size = small-set _ 3 _ (omega arith) (small-set _ 2 _ (omega arith) 
 
 pub small-place : (slot : ℕ) → Small (placeOf slot)
 unfolding placeOf
-small-place slot = small-cons (omega arith) (small-cons (omega arith) (small-cons (omega arith) small-nil))
+small-place slot = small-each (placeOf slot) (omega arith)
 
 -- a number of two such bytes
 pub small-word : (m : List ℕ) (at : ℕ) → Small m → wordAt m at < 65536

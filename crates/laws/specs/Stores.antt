@@ -101,6 +101,10 @@ length-stored ss img = rw (stored-laid ss img) (length-laid (inImage ss) img)
 pub stored-off : (ss : List Store) (img : List ℕ) (at : ℕ) → Each (Off at) (inImage ss) → byteAt (stored img ss) at ≡ byteAt img at
 stored-off ss img at o = rw (stored-laid ss img) (laid-off (inImage ss) img at o)
 
+pub stored-at : (ss : List Store) (img : List ℕ) (q i at : ℕ) → q < length (inImage ss) → i < length (bytesOf (getD (inImage ss) q none)) → begins (getD (inImage ss) q none) + i ≡ at
+    → at < length img → Each (Off at) (drop (suc q) (inImage ss)) → byteAt (stored img ss) at ≡ byteAt (bytesOf (getD (inImage ss) q none)) i
+stored-at ss img q i at h k e l o = rw (stored-laid ss img) (laid-at (inImage ss) img q i at h k e l o)
+
 -- a store lies inside one sector, which lies inside an image of n bytes
 abbrev pub Inside : ℕ → Store → Type 0
 Inside n (store k i vs) = (i + length vs ≤ 256) × (256 * k + 256 ≤ n)
@@ -150,6 +154,10 @@ length-puts ps tab f = rw (puts-laid ps tab f) (length-laid (inBlock f ps) tab)
 
 pub puts-off : (ps : List Put) (tab : List ℕ) (f at : ℕ) → Each (Off at) (inBlock f ps) → byteAt (puts tab f ps) at ≡ byteAt tab at
 puts-off ps tab f at o = rw (puts-laid ps tab f) (laid-off (inBlock f ps) tab at o)
+
+pub puts-at : (ps : List Put) (tab : List ℕ) (f q i at : ℕ) → q < length (inBlock f ps) → i < length (bytesOf (getD (inBlock f ps) q none)) → begins (getD (inBlock f ps) q none) + i ≡ at
+    → at < length tab → Each (Off at) (drop (suc q) (inBlock f ps)) → byteAt (puts tab f ps) at ≡ byteAt (bytesOf (getD (inBlock f ps) q none)) i
+puts-at ps tab f q i at h k e l o = rw (puts-laid ps tab f) (laid-at (inBlock f ps) tab q i at h k e l o)
 
 -- it lies inside the block
 abbrev pub Within : Put → Type 0
