@@ -1,6 +1,8 @@
 -- Laws of the definitions of `rules`, which proofs cite.
 pub mod Tests
 pub mod Bytes
+pub mod Single
+pub mod Walk
 pub mod Each
 pub mod Small
 pub mod Stores
