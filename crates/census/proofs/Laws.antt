@@ -16,7 +16,7 @@ use Rattle.disk.specs.Loaded.{shapeOf}
 use Rattle.disk.specs.declared.Shape.{Shape}
 use Rattle.disk.specs.declared.Shaped.{Shaped}
 use Rattle.disk.specs.declared.Shaped.the-variants.{Right, Wrong}
-use Rattle.census_laws.specs.Count.{marked, marking}
+use Rattle.census_laws.specs.Marks.{marked, marking}
 use Rattle.census_laws.specs.Whole.{ended, ending, sized}
 
 -- the owners of the free chain, and those of files behind them

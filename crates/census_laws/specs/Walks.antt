@@ -13,6 +13,7 @@ use Rattle.rules.specs.Directory.{live, startAt, endAt, sizeAt}
 use Rattle.rules.specs.Census.{runsOut, chainRight, numbersFrom, fileRight, filesRight, fileNumbers, filesNumbers}
 use Rattle.laws.specs.Tests.{clash, never, both}
 use Rattle.laws.specs.Bytes.{over-none, over-append, length-over}
+use Rattle.laws.specs.Surveys.{length-numbers}
 use Rattle.census_laws.specs.Turns.{one-left, none-left}
 use Rattle.census_laws.specs.Stored.{over-cons}
 use Rattle.census_laws.specs.declared.Listing.{Listing}
@@ -21,6 +22,13 @@ use Rattle.census_laws.specs.declared.Listing.the-variants.{Upto, Wrong}
 -- a pass's answer, and the output that it leaves
 pub data Laid : Type 0 where
   laid : Listing → List ℕ → Laid
+
+-- no second answer and output fits a promise of one
+abbrev pub SingleLaid : Laid → Type 0
+SingleLaid l = (r r′ : Listing) (out out′ : List ℕ) → laid r out ≡ l → laid r′ out′ ≡ l → (r ≡ r′) × (out ≡ out′)
+
+pub single-laid : (l : Laid) → SingleLaid l
+single-laid l r r′ out out′ p q = (cc, cc)
 
 -- on from where a pass ended
 abbrev pub onLaid : Laid → (List ℕ → ℕ → Laid) → Laid
@@ -156,11 +164,6 @@ lists-then false c xs ys out at l f h g =
       right = λ k. absurd (never k);
     }
 
-pub numbers-length : (img : List ℕ) (S n a : ℕ) → length (numbersFrom img S n a) ≡ n
-unfolding numbersFrom
-numbers-length img S zero a = refl
-numbers-length img S (suc n) a = ap suc (numbers-length img S n (linkOf img (index S a)))
-
 module _ (img : List ℕ) (M S : ℕ) where
   pub walk-lists : (end n before a : ℕ) (out : List ℕ) (at : ℕ)
       → Lists (runsOut img M S end n before a) (numbersFrom img S n a) out at (walk img M S end n before a out at)
@@ -227,7 +230,7 @@ module _ (img : List ℕ) (M S : ℕ) where
       go : (b : Bool) → pick b (pick (leb (sizeAt img o) (M * S)) (runsOut img M S (endAt img o) (sizeAt img o) 0 (startAt img o)) false) true ≡ true
           → length (pick b (numbersFrom img S (sizeAt img o) (startAt img o)) []) ≤ M * S
       go true h =
-          omega (arith, leb-true (sizeAt img o) (M * S) (both (leb (sizeAt img o) (M * S)) _ h .0), numbers-length img S (sizeAt img o) (startAt img o))
+          omega (arith, leb-true (sizeAt img o) (M * S) (both (leb (sizeAt img o) (M * S)) _ h .0), length-numbers img S (sizeAt img o) (startAt img o))
       go false h = omega arith
 
   pub file-place : (o : ℕ) (out out′ : List ℕ) (at m : ℕ) {r : Listing} → laid r out′ ≡ file img M S o out at → r ≡ Upto m → m ≤ at + M * S

@@ -14,10 +14,10 @@ use Rattle.rules.specs.Directory.{directoryRight, slots}
 use Rattle.rules.specs.Census.{holed, twins, freeRight, filesRight, numbersFrom, filesNumbers, listed, owners, eachOnce, Survey, survey, fault, concluded, census}
 use Rattle.laws.specs.Tests.{clash, never}
 use Rattle.laws.specs.Bytes.{over-append, length-over, length-zeros}
-use Rattle.census_laws.specs.Count.{Marked, marked, marking, Marks, marking-once, marking-is, once-length}
+use Rattle.laws.specs.Surveys.{length-numbers, length-owners, numbers-listed}
+use Rattle.census_laws.specs.Marks.{Marked, marked, marking, Marks, marking-once, once-short}
 use Rattle.census_laws.specs.Stored.{over-exact}
-use Rattle.census_laws.specs.Walks.{laid, chainAt, files, Lists, lists-kept, lists-not, lists-to, chain-lists, files-lists, numbers-length}
-use Rattle.census_laws.specs.Numbers.{listed-below, owners-length}
+use Rattle.census_laws.specs.Walks.{laid, chainAt, files, Lists, lists-kept, lists-not, lists-to, chain-lists, files-lists}
 use Rattle.census_laws.specs.declared.Listing.{Listing}
 use Rattle.census_laws.specs.declared.Listing.the-variants.{Upto, Wrong}
 
@@ -97,14 +97,14 @@ module _ (img : List ℕ) (M S : ℕ) (xs ys : List ℕ) (lx : length xs ≡ M *
             omega (
               arith,
               lists-to files-listed b z .1,
-              numbers-length img S (freeCount img) (firstFree img),
+              length-numbers img S (freeCount img) (firstFree img),
               length-append (numbersFrom img S (freeCount img) (firstFree img)) (filesNumbers img S (slots img S)),
             )
 
         list-is : xs₂ ≡ over xs 0 (listed img S)
         unfolding listed
         list-is =
-            let p : k ≡ 0 + length (numbersFrom img S (freeCount img) (firstFree img)) = omega (arith, numbers-length img S (freeCount img) (firstFree img)) in
+            let p : k ≡ 0 + length (numbersFrom img S (freeCount img) (firstFree img)) = omega (arith, length-numbers img S (freeCount img) (firstFree img)) in
             lists-to files-listed b z .2
             ∙ ap₂ (λ (x : List ℕ) (i : ℕ). over x i (filesNumbers img S (slots img S))) (lists-to free-lists a t .2) p
             ∙ sym (over-append xs 0 (numbersFrom img S (freeCount img) (firstFree img)) (filesNumbers img S (slots img S)))
@@ -121,7 +121,7 @@ module _ (img : List ℕ) (M S : ℕ) (xs ys : List ℕ) (lx : length xs ≡ M *
             let w : ended e ys₁ ≡ ended 46 ys = d ∙ rw f refl in
             let e46 : e ≡ 46 = cc in
             let same : ys₁ ≡ ys = cc in
-            rw (e46, same, fault-is, once-length (M * S) (listed img S) (listed-below img M S free-right files-right) h)
+            rw (e46, same, fault-is, once-short (M * S) (listed img S) (numbers-listed img M S free-right files-right) h)
             (refused 46 xs₂ ys (λ v. omega arith) kept refl)
 
         module _ (full : length (listed img S) ≡ M * S) where
@@ -135,7 +135,7 @@ module _ (img : List ℕ) (M S : ℕ) (xs ys : List ℕ) (lx : length xs ≡ M *
               d ∙ rw (f, ly, xs-is, marks img M S full .is) refl
 
           owned : over (marks img M S full .after) 0 (owners img S) ≡ owners img S
-          owned = over-exact (marks img M S full .after) (owners img S) (omega (arith, owners-length img S, marks img M S full .kept, length-zeros (M * S)))
+          owned = over-exact (marks img M S full .after) (owners img S) (omega (arith, length-owners img S, marks img M S full .kept, length-zeros (M * S)))
 
           all : (b : Bool) → eachOnce (M * S) (listed img S) ≡ b
               → ended e ys₁ ≡ pick b (ended 0 (over (marks img M S full .after) 0 (owners img S))) (ended 46 (marks img M S full .after))

@@ -8,8 +8,6 @@ pub mod Small
 pub mod Stores
 pub mod Addresses
 pub mod Slots
-pub mod Single
-pub mod Walk
 pub mod Fair
 pub mod Facts
 pub mod Effects

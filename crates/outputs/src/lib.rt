@@ -3,7 +3,7 @@
 ghost use mathlib.Core.Path.{_≡_};
 ghost use lib.ListN.{length, replicate};
 ghost use Rattle.rules.specs.Bytes.{over, one, zeros};
-ghost use Rattle.census_laws.specs.Count.{marked, marking};
+ghost use Rattle.census_laws.specs.Marks.{marked, marking};
 
 // A number stored.
 pub fn place(out: &mut [u16], at: usize, v: u16)

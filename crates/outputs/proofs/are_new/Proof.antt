@@ -1,5 +1,5 @@
 use borrow.Author.Needs.{needs}
-use Rattle.census_laws.specs.Count.{mark-cleared}
+use Rattle.census_laws.specs.Marks.{mark-cleared}
 use Rattle.outputs.proofs.are_new.Statement.{statement}
 use Rattle.outputs.proofs.are_new.Tie as tie
 

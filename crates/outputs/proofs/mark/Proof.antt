@@ -3,7 +3,7 @@ use Prim.Native.Nat.{_-_, _≤_}
 use native.Mathlib.Omega.{arith}
 use lib.ListN.{length, drop, length-set}
 use borrow.Author.Needs.{needs}
-use Rattle.census_laws.specs.Count.{marking, mark-large, mark-twice, mark-on, mark-end}
+use Rattle.census_laws.specs.Marks.{marking, mark-large, mark-twice, mark-on, mark-end}
 use Rattle.outputs.proofs.mark.Statement.{statement}
 use Rattle.outputs.proofs.mark.Tie as tie
 

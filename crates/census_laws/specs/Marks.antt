@@ -1,4 +1,4 @@
--- Counting in a list: how often a number stands in it, and how many of it lie below a bound. "Each once" by counting, and by marks.
+-- Each number once, by marks: a list of n numbers holds each number below n once just where it meets no mark twice.
 use mathlib.Core.Path.{_≡_, refl, sym, ap, ap₂, _∙_, subst}
 use mathlib.Core.Bool.{Bool, true, false}
 use mathlib.Core.List.{List, [], _∷_, _++_}
@@ -12,63 +12,35 @@ use lib.Dec.{eqb, ltb, leb}
 use borrow.Author.Tests.{eq-eqb, ne-eqb, eqb-true, eqb-false, lt-ltb, le-ltb, ltb-true, ltb-false}
 use Rattle.rules.specs.Bytes.{pick, zeros}
 use Rattle.rules.specs.Census.{tally, eachOnce}
-use Rattle.laws.specs.Tests.{never, both, pick-all}
+use Rattle.laws.specs.Tests.{both, pick-all}
+use Rattle.laws.specs.Each.{Each}
+use Rattle.laws.specs.Counting.{total, total-out, total-in, total-length, total-once, once-length}
 use Rattle.laws.specs.Bytes.{zeros-at, length-zeros}
 
--- how many of a list are below n
-unfoldable pub below : ℕ → List ℕ → ℕ
-below n [] = 0
-below n (x ∷ xs) = pick (ltb x n) 1 0 + below n xs
+-- ---- counted in full
 
-pub below-append : (n : ℕ) (xs ys : List ℕ) → below n (xs ++ ys) ≡ below n xs + below n ys
-unfolding below
-below-append n [] ys = omega arith
-below-append n (x ∷ xs) ys = omega (arith, below-append n xs ys)
+total-most : (n : ℕ) (xs : List ℕ) → total n xs ≤ length xs
+total-most n [] = omega (arith, total-length n [] tt)
+total-most n (x ∷ xs) = go (decLt x n) (total-most n xs)
+  where
+    go : Dec (x < n) → total n xs ≤ length xs → total n (x ∷ xs) ≤ suc (length xs)
+    go (yes b) h = omega (arith, total-in n x xs b)
+    go (no b) h = omega (arith, total-out n x xs (omega arith))
 
-pub tally-append : (k : ℕ) (xs ys : List ℕ) → tally k (xs ++ ys) ≡ tally k xs + tally k ys
+-- a list of which all count has all below n
+total-full : (n : ℕ) (xs : List ℕ) → total n xs ≡ length xs → Each (λ (x : ℕ). x < n) xs
+total-full n [] h = tt
+total-full n (x ∷ xs) h = go (decLt x n) (total-full n xs)
+  where
+    go : Dec (x < n) → (total n xs ≡ length xs → Each (λ (y : ℕ). y < n) xs) → (x < n) × Each (λ (y : ℕ). y < n) xs
+    go (yes b) ih = (b, ih (omega (arith, total-in n x xs b)))
+    go (no b) ih = absurd (omega (arith, total-out n x xs (omega arith), total-most n xs))
+
+-- what is not below n does not stand there
+tally-high : (n k : ℕ) (xs : List ℕ) → n ≤ k → Each (λ (x : ℕ). x < n) xs → tally k xs ≡ 0
 unfolding tally
-tally-append k [] ys = omega arith
-tally-append k (x ∷ xs) ys = omega (arith, tally-append k xs ys)
-
--- the next bound counts those that stand at it
-one-more : (x n : ℕ) → pick (ltb x (suc n)) 1 0 ≡ pick (ltb x n) 1 0 + pick (eqb x n) 1 0
-one-more x n = go (ltb x n) refl (eqb x n) refl
-  where
-    go : (b : Bool) → ltb x n ≡ b → (c : Bool) → eqb x n ≡ c → pick (ltb x (suc n)) 1 0 ≡ pick b 1 0 + pick c 1 0
-    go true p true q = absurd (omega (arith, ltb-true x n p, eqb-true x n q))
-    go true p false q = rw (lt-ltb x (suc n) (omega (arith, ltb-true x n p))) refl
-    go false p true q = rw (lt-ltb x (suc n) (omega (arith, eqb-true x n q))) refl
-    go false p false q = rw (le-ltb x (suc n) (omega (arith, ltb-false x n p, eqb-false x n q))) refl
-
-pub below-suc : (n : ℕ) (xs : List ℕ) → below (suc n) xs ≡ below n xs + tally n xs
-unfolding below tally
-below-suc n [] = refl
-below-suc n (x ∷ xs) = omega (arith, one-more x n, below-suc n xs)
-
-pub below-zero : (xs : List ℕ) → below 0 xs ≡ 0
-unfolding below
-below-zero [] = refl
-below-zero (x ∷ xs) = rw (le-ltb x 0 (omega arith)) (omega (arith, below-zero xs))
-
-pub below-most : (n : ℕ) (xs : List ℕ) → below n xs ≤ length xs
-unfolding below
-below-most n [] = omega arith
-below-most n (x ∷ xs) = go (ltb x n) (below-most n xs)
-  where
-    go : (b : Bool) → below n xs ≤ length xs → pick b 1 0 + below n xs ≤ suc (length xs)
-    go true h = omega arith
-    go false h = omega arith
-
-pub below-rest : (n m : ℕ) (xs : List ℕ) → n ≤ m → below n xs ≤ below m xs
-unfolding below
-below-rest n m [] h = omega arith
-below-rest n m (x ∷ xs) h = go (ltb x n) refl (ltb x m) refl (below-rest n m xs h)
-  where
-    go : (b : Bool) → ltb x n ≡ b → (c : Bool) → ltb x m ≡ c → below n xs ≤ below m xs → pick b 1 0 + below n xs ≤ pick c 1 0 + below m xs
-    go true p true q r = omega arith
-    go true p false q r = absurd (omega (arith, ltb-true x n p, ltb-false x m q))
-    go false p true q r = omega arith
-    go false p false q r = omega arith
+tally-high n k [] h e = refl
+tally-high n k (x ∷ xs) h e = rw (ne-eqb x k (λ q. omega (arith, e .0))) (omega (arith, tally-high n k xs h (e .1)))
 
 -- ---- each once
 
@@ -88,47 +60,41 @@ unfolding eachOnce
 once-true zero xs h = refl
 once-true (suc n) xs h = rw (eq-eqb (tally n xs) 1 (h n (omega arith))) (once-true n xs (λ k b. h k (omega arith)))
 
--- so n of them are below n
-pub once-below : (n : ℕ) (xs : List ℕ) → eachOnce n xs ≡ true → below n xs ≡ n
-once-below n xs h = go n (once-is n xs h)
+-- a list of n numbers that holds each below n once holds none twice, and no other
+once-most : (n : ℕ) (xs : List ℕ) → eachOnce n xs ≡ true → length xs ≡ n → Each (λ (x : ℕ). x < n) xs × ((k : ℕ) → tally k xs ≤ 1)
+once-most n xs h e = (all, λ k. go k (decLt k n))
   where
-    go : (m : ℕ) → ((k : ℕ) → k < m → tally k xs ≡ 1) → below m xs ≡ m
-    go zero t = below-zero xs
-    go (suc m) t = omega (arith, below-suc m xs, t m (omega arith), go m (λ k b. t k (omega arith)))
+    all : Each (λ (x : ℕ). x < n) xs
+    all = total-full n xs (total-once n xs h ∙ sym e)
 
--- a list of n numbers that holds each below n once holds none twice
-once-most : (n : ℕ) (xs : List ℕ) → eachOnce n xs ≡ true → length xs ≡ n → (k : ℕ) → tally k xs ≤ 1
-once-most n xs h e k = go (decLt k n)
-  where
-    go : Dec (k < n) → tally k xs ≤ 1
-    go (yes b) = omega (arith, once-is n xs h k b)
-    go (no b) = omega (arith, once-below n xs h, below-rest n k xs (omega arith), below-suc k xs, below-most (suc k) xs)
+    go : (k : ℕ) → Dec (k < n) → tally k xs ≤ 1
+    go k (yes b) = omega (arith, once-is n xs h k b)
+    go k (no b) = omega (arith, tally-high n k xs (omega arith) all)
 
--- a list of numbers below n holds each once only if it has n of them
-pub once-length : (n : ℕ) (xs : List ℕ) → below n xs ≡ length xs → (length xs ≡ n → ⊥) → eachOnce n xs ≡ false
-once-length n xs e h = go (eachOnce n xs) refl
+-- a list of numbers below n that has not n of them does not hold each once
+pub once-short : (n : ℕ) (xs : List ℕ) → Each (λ (x : ℕ). x < n) xs → (length xs ≡ n → ⊥) → eachOnce n xs ≡ false
+once-short n xs e h = go (eachOnce n xs) refl
   where
     go : (b : Bool) → eachOnce n xs ≡ b → b ≡ false
-    go true q = absurd (h (omega (arith, once-below n xs q)))
+    go true q = absurd (h (once-length n xs q e))
     go false q = refl
 
--- ---- marks
+-- n of them, none twice: each once
+few-once : (n : ℕ) (xs : List ℕ) → ((k : ℕ) → tally k xs ≤ 1) → total n xs ≤ n
+unfolding total
+few-once zero xs t = omega arith
+few-once (suc n) xs t = omega (arith, t n, few-once n xs t)
 
--- n of them, all below n, and none stands twice: each stands once
-few-once : (n : ℕ) (xs : List ℕ) → ((k : ℕ) → k < n → tally k xs ≤ 1) → below n xs ≤ n
-few-once zero xs t = omega (arith, below-zero xs)
-few-once (suc n) xs t = omega (arith, below-suc n xs, t n (omega arith), few-once n xs (λ k b. t k (omega arith)))
-
-full-once : (n : ℕ) (xs : List ℕ) → ((k : ℕ) → k < n → tally k xs ≤ 1) → below n xs ≡ n → (k : ℕ) → k < n → tally k xs ≡ 1
+full-once : (n : ℕ) (xs : List ℕ) → ((k : ℕ) → tally k xs ≤ 1) → total n xs ≡ n → (k : ℕ) → k < n → tally k xs ≡ 1
+unfolding total
 full-once zero xs t e k b = absurd (omega arith)
-full-once (suc n) xs t e k b = go (ℕ-discrete k n) (full-once n xs (λ i c. t i (omega arith)))
+full-once (suc n) xs t e k b = go (ℕ-discrete k n) (full-once n xs t)
   where
-    few : below n xs ≤ n
-    few = few-once n xs (λ i c. t i (omega arith))
+    go : Dec (k ≡ n) → (total n xs ≡ n → (i : ℕ) → i < n → tally i xs ≡ 1) → tally k xs ≡ 1
+    go (yes q) ih = ap (λ (i : ℕ). tally i xs) q ∙ omega (arith, t n, few-once n xs t)
+    go (no q) ih = ih (omega (arith, t n, few-once n xs t)) k (omega arith)
 
-    go : Dec (k ≡ n) → (below n xs ≡ n → (i : ℕ) → i < n → tally i xs ≡ 1) → tally k xs ≡ 1
-    go (yes q) ih = ap (λ (i : ℕ). tally i xs) q ∙ omega (arith, below-suc n xs, t n (omega arith), few)
-    go (no q) ih = ih (omega (arith, below-suc n xs, t n (omega arith), few)) k (omega arith)
+-- ---- marks
 
 -- each of a list is below the number of marks, and has none, nor stood before in the list: it gets its mark as it is met
 unfoldable pub newcomers : List ℕ → List ℕ → Bool
@@ -141,6 +107,13 @@ newcomers ms (x ∷ xs) =
 -- the same with the marks that are left
 pub data Marked : Type 0 where
   marked : Bool → List ℕ → Marked
+
+-- no second answer and marks fit a promise of one
+abbrev pub SingleMarked : Marked → Type 0
+SingleMarked m = (b b′ : Bool) (ms ms′ : List ℕ) → marked b ms ≡ m → marked b′ ms′ ≡ m → (b ≡ b′) × (ms ≡ ms′)
+
+pub single-marked : (m : Marked) → SingleMarked m
+single-marked m b b′ ms ms′ p q = (cc, cc)
 
 unfoldable pub marking : List ℕ → List ℕ → Marked
 marking ms [] = marked true ms
@@ -223,33 +196,25 @@ unused ms k h = go (eqb (getD ms k 0) 0) refl h
     go false e q = absurd (omega arith)
 
 -- none of them is too large, and none is marked twice: just then all are newcomers
-new-is : (ms xs : List ℕ) → newcomers ms xs ≡ true → (below (length ms) xs ≡ length xs) × ((k : ℕ) → used ms k + tally k xs ≤ 1)
-unfolding newcomers below tally
-new-is ms [] h = (refl, λ k. omega (arith, used-most ms k))
+new-is : (ms xs : List ℕ) → newcomers ms xs ≡ true → Each (λ (x : ℕ). x < length ms) xs × ((k : ℕ) → used ms k + tally k xs ≤ 1)
+unfolding newcomers tally
+new-is ms [] h = (tt, λ k. omega (arith, used-most ms k))
 new-is ms (x ∷ xs) h =
     let a : (ltb x (length ms) ≡ true) × (pick (eqb (getD ms x 0) 0) (newcomers (set ms x 1) xs) false ≡ true) = both _ _ h in
     let b : (eqb (getD ms x 0) 0 ≡ true) × (newcomers (set ms x 1) xs ≡ true) = both _ _ (a .1) in
-    let r : (below (length (set ms x 1)) xs ≡ length xs) × ((k : ℕ) → used (set ms x 1) k + tally k xs ≤ 1) = new-is (set ms x 1) xs (b .1) in (
-      rw (a .0) (omega (arith, ap (λ (n : ℕ). below n xs) (length-set ms x 1), r .0)),
+    let r : Each (λ (y : ℕ). y < length (set ms x 1)) xs × ((k : ℕ) → used (set ms x 1) k + tally k xs ≤ 1) = new-is (set ms x 1) xs (b .1) in (
+      (ltb-true x (length ms) (a .0), subst (λ (n : ℕ). Each (λ (y : ℕ). y < n) xs) (length-set ms x 1) (r .0)),
       λ k. omega (arith, r .1 k, used-more ms x (ltb-true x (length ms) (a .0)) (eqb-true (getD ms x 0) 0 (b .0)) k),
     )
 
-new-true : (ms xs : List ℕ) → below (length ms) xs ≡ length xs → ((k : ℕ) → used ms k + tally k xs ≤ 1) → newcomers ms xs ≡ true
-unfolding newcomers below tally
+new-true : (ms xs : List ℕ) → Each (λ (x : ℕ). x < length ms) xs → ((k : ℕ) → used ms k + tally k xs ≤ 1) → newcomers ms xs ≡ true
+unfolding newcomers tally
 new-true ms [] e t = refl
-new-true ms (x ∷ xs) e t = go (ltb x (length ms)) refl e (new-true (set ms x 1) xs)
-  where
-    free : getD ms x 0 ≡ 0
-    free = unused ms x (omega (arith, rw (eq-eqb x x refl) at (t x)))
-
-    go : (b : Bool) → ltb x (length ms) ≡ b → pick b 1 0 + below (length ms) xs ≡ suc (length xs)
-        → (below (length (set ms x 1)) xs ≡ length xs → ((k : ℕ) → used (set ms x 1) k + tally k xs ≤ 1) → newcomers (set ms x 1) xs ≡ true)
-        → pick b (pick (eqb (getD ms x 0) 0) (newcomers (set ms x 1) xs) false) false ≡ true
-    go true p q ih =
-        rw (eq-eqb (getD ms x 0) 0 free)
-        (ih (omega (arith, ap (λ (n : ℕ). below n xs) (length-set ms x 1)))
-        (λ k. omega (arith, t k, used-more ms x (ltb-true x (length ms) p) free k)))
-    go false p q ih = absurd (omega (arith, below-most (length ms) xs))
+new-true ms (x ∷ xs) e t =
+    let free : getD ms x 0 ≡ 0 = unused ms x (omega (arith, rw (eq-eqb x x refl) at (t x))) in
+    rw (lt-ltb x (length ms) (e .0), eq-eqb (getD ms x 0) 0 free)
+    (new-true (set ms x 1) xs (subst (λ (n : ℕ). Each (λ (y : ℕ). y < n) xs) (sym (length-set ms x 1)) (e .1))
+    (λ k. omega (arith, t k, used-more ms x (e .0) free k)))
 
 -- what holds of both ways round is the same test
 pub same-test : (b c : Bool) → (b ≡ true → c ≡ true) → (c ≡ true → b ≡ true) → b ≡ c
@@ -262,10 +227,11 @@ pub new-once : (n : ℕ) (xs : List ℕ) → length xs ≡ n → newcomers (zero
 new-once n xs e =
     same-test (newcomers (zeros n) xs) (eachOnce n xs)
     (λ h. let r = new-is (zeros n) xs h in
-    once-true n xs
-    (full-once n xs (λ k b. omega (arith, r .1 k)) (omega (arith, ap (λ (m : ℕ). below m xs) (length-zeros n), r .0))))
-    (λ h. new-true (zeros n) xs (omega (arith, ap (λ (m : ℕ). below m xs) (length-zeros n), once-below n xs h))
-    (λ k. omega (arith, used-none n k, once-most n xs h e k)))
+    let all : Each (λ (x : ℕ). x < n) xs = subst (λ (m : ℕ). Each (λ (x : ℕ). x < m) xs) (length-zeros n) (r .0) in
+    once-true n xs (full-once n xs (λ k. omega (arith, r .1 k)) (total-length n xs all ∙ e)))
+    (λ h. let r = once-most n xs h e in
+    new-true (zeros n) xs (subst (λ (m : ℕ). Each (λ (x : ℕ). x < m) xs) (sym (length-zeros n)) (r .0))
+    (λ k. omega (arith, used-none n k, r .1 k)))
 
 -- the same as the code has it
 pub marking-once : (n : ℕ) (xs : List ℕ) → length xs ≡ n → Marks (zeros n) (eachOnce n xs) (marking (zeros n) xs)
