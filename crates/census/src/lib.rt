@@ -46,7 +46,7 @@ fn end(image: &[u8], per: u8, n: usize, sectors: &[u16], owners: &mut [u16]) -> 
     }
     let once = are_new(sectors, owners);
     if !once {
-        return 46;
+        return 46; // a sector twice
     }
     own_all(image, per, owners);
     0

@@ -33,7 +33,7 @@ fn walk(
 ) -> Listing
     ensures { λ r. ⌜ laid r (now (out .exit)) ≡ walk (now (image .entry)) last per end count 0 start (now (out .entry)) at ⌝ }
 {
-    let mut left = count;
+    let mut left = count as usize;
     let mut before = 0u16;
     let mut a = start;
     let mut i = at as usize;
