@@ -11,11 +11,12 @@ use Rattle.chains.specs.Tally.{tally}
 use Rattle.chains.specs.Stored.{placeAt, bytesOf, Off, length-stored, stored-off}
 use Rattle.chains.specs.Directory.{Listing, Spot, spot, slots-apart}
 
--- a store into the record, into one of the sectors ks, or into the slot at o
+-- a store into the record, into one of the sectors ks, or into the slot at o; or of nothing
 pub data Lies (S : ℕ) (ks : List ℕ) (o : ℕ) : Store → Type 0 where
   in-record : (vs : List ℕ) → length vs ≡ 6 → Lies S ks o (store 2 29 vs)
   in-sector : (k i : ℕ) (vs : List ℕ) → S ≤ k → 1 ≤ tally k ks → i + length vs ≤ 256 → Lies S ks o (store k i vs)
   in-slot : (k i : ℕ) (vs : List ℕ) → o ≤ 256 * k + i → 256 * k + i + length vs ≤ o + 24 → Lies S ks o (store k i vs)
+  of-nothing : (k i : ℕ) → Lies S ks o (store k i [])
 
 abbrev pub AllLie : ℕ → List ℕ → ℕ → List Store → Type 0
 AllLie S ks o [] = Unit {0}
@@ -41,25 +42,29 @@ module _ (S : ℕ) (s5 : 5 ≤ S) (ds : List ℕ) (d : Listing S ds) (s : ℕ) (
   w = spot S ds d s hs
 
   off-shape : (ks : List ℕ) (t : Store) (p : ℕ) → 550 ≤ p → p < 552 → Lies S ks o t → placeAt t ≤ p → p < placeAt t + length (bytesOf t) → ⊥
-  off-shape ks t p a b (in-record vs l) = λ u v. omega arith
-  off-shape ks t p a b (in-sector k i vs l n e) = λ u v. omega arith
+  off-shape ks t p a b (in-record vs l) = λ x y. omega arith
+  off-shape ks t p a b (in-sector k i vs l n e) = λ x y. omega arith
   off-shape ks t p a b (in-slot k i vs l e) = λ u v. omega (arith, w .place, w .low)
+  off-shape ks t p a b (of-nothing k u) = λ x y. omega arith
 
   off-link : (ks : List ℕ) (t : Store) (j i : ℕ) → 4 ≤ j → j < S → i < 2 → Lies S ks o t → placeAt t ≤ 256 * j + i → 256 * j + i < placeAt t + length (bytesOf t) → ⊥
-  off-link ks t j i a b c (in-record vs l) = λ u v. omega arith
-  off-link ks t j i a b c (in-sector k h vs l n e) = λ u v. omega arith
+  off-link ks t j i a b c (in-record vs l) = λ x y. omega arith
+  off-link ks t j i a b c (in-sector k h vs l n e) = λ x y. omega arith
   off-link ks t j i a b c (in-slot k h vs l e) = λ u v. below (w .k) j (16 + 24 * w .i) i (omega arith) (omega (arith, w .row)) c (omega (arith, w .place)) (omega (arith, w .place))
+  off-link ks t j i a b c (of-nothing k u) = λ x y. omega arith
 
   off-slot : (ks : List ℕ) (t : Store) (s′ i : ℕ) → s′ < length (slotsOf ds) → s′ ≢ s → i < 24 → Lies S ks o t
       → placeAt t ≤ getD (slotsOf ds) s′ 0 + i → getD (slotsOf ds) s′ 0 + i < placeAt t + length (bytesOf t) → ⊥
   off-slot ks t s′ i h ne b (in-record vs l) = let w′ = spot S ds d s′ h in λ u v. omega (arith, w′ .place, w′ .low)
   off-slot ks t s′ i h ne b (in-sector k j vs l n e) = let w′ = spot S ds d s′ h in λ u v. omega (arith, w′ .place, w′ .high, w′ .row)
   off-slot ks t s′ i h ne b (in-slot k j vs l e) = λ u v. slots-apart S ds d s s′ hs h (λ q. ne (sym q)) i b (omega arith) (omega arith)
+  off-slot ks t s′ i h ne b (of-nothing k u) = λ x y. omega arith
 
   off-sector : (ks : List ℕ) (t : Store) (j i : ℕ) → S ≤ j → tally j ks ≡ 0 → i < 256 → Lies S ks o t → placeAt t ≤ 256 * j + i → 256 * j + i < placeAt t + length (bytesOf t) → ⊥
-  off-sector ks t j i a b c (in-record vs l) = λ u v. omega arith
+  off-sector ks t j i a b c (in-record vs l) = λ x y. omega arith
   off-sector ks t j i a b c (in-sector k h vs l n e) = λ u v. let q : k ≡ j = omega arith in let y : tally k ks ≡ tally j ks = ap (λ (x : ℕ). tally x ks) q in omega (arith, y)
   off-sector ks t j i a b c (in-slot k h vs l e) = λ u v. omega (arith, w .place, w .row, w .high)
+  off-sector ks t j i a b c (of-nothing k u) = λ x y. omega arith
 
   all-off : (ks : List ℕ) (p : ℕ) → ((t : Store) → Lies S ks o t → placeAt t ≤ p → p < placeAt t + length (bytesOf t) → ⊥) → (ws : List Store) → AllLie S ks o ws → Off p ws
   all-off ks p g [] a = tt

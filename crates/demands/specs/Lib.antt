@@ -3,3 +3,7 @@ pub mod Ledger
 pub mod Relation
 pub mod Quiet
 pub mod Meets
+pub mod Searches
+pub mod Reads
+pub mod Sectors
+pub mod Marks
