@@ -7,3 +7,4 @@ pub mod Searches
 pub mod Reads
 pub mod Sectors
 pub mod Marks
+pub mod Fills
