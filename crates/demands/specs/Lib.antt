@@ -8,3 +8,4 @@ pub mod Reads
 pub mod Sectors
 pub mod Marks
 pub mod Fills
+pub mod Takes
