@@ -9,3 +9,4 @@ pub mod Sectors
 pub mod Marks
 pub mod Fills
 pub mod Takes
+pub mod Opens
