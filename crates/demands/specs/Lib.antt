@@ -10,3 +10,4 @@ pub mod Marks
 pub mod Fills
 pub mod Takes
 pub mod Opens
+pub mod Removes

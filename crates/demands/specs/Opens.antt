@@ -30,7 +30,7 @@ use Rattle.demands.specs.Searches.{legal-part, find-is, vacancy-is, in-u
 use Rattle.demands.specs.Marks.{slot-in, slot-off, slot-at, slot-frame, slot-free}
 
 -- ---- a legal name is live
-legal-live : (m : List ℕ) → legal m 0 ≡ true → live m 0 ≡ true
+pub legal-live : (m : List ℕ) → legal m 0 ≡ true → live m 0 ≡ true
 unfolding legal Rattle.rules.specs.Names.isWord Rattle.rules.specs.Names.isLetter Rattle.rules.specs.Bytes.within part live Rattle.rules.specs.Directory.neverUsed Rattle.rules.specs.Directory.deleted
 legal-live m h = go (getD m 0 0) (Rattle.chains.specs.Addresses.pick-both _ _ (Rattle.chains.specs.Addresses.pick-both _ _ h .0) .0)
   where

@@ -34,6 +34,12 @@ writes-opens (listing p) h = absurd (omega arith)
 writes-opens (reading s j i) h = absurd (omega arith)
 writes-opens (writing s ub) h = refl
 
+pub shut-writes : (b : Block) → opens b ≡ 0 → writes b ≡ 0
+shut-writes closed h = refl
+shut-writes (listing p) h = refl
+shut-writes (reading s j i) h = refl
+shut-writes (writing s ub) h = h
+
 module _ (M S : ℕ) (z : Shape M S) (ds : List ℕ) (d : Listing S ds) (img tab : List ℕ) (a : Ledger) (r : Agrees M S ds img tab a) (n : ℕ) (hn : n < 8) where
   abbrev old : Block
   old = getD (a .blocks) n closed
@@ -74,19 +80,19 @@ module _ (M S : ℕ) (z : Shape M S) (ds : List ℕ) (d : Listing S ds) (img tab
       quiet (puts tab (320 * n) (put 1 (one e) ∷ [])) (turned tab n (put 1 (one e) ∷ []) (omega (arith, length-one e)))
       (λ i h. puts-clear (put 1 (one e) ∷ []) tab (320 * n) i (omega (arith, length-one e)))
 
-  idle-keeps : (tab′ : List ℕ) (b : Block) → opens b ≡ 0 → tb tab′ n 2 ≡ tb tab n 2 → tp tab′ n ≡ tp tab n → Keeps S (slotsOf ds) tab n (a .slots) b → Keeps S (slotsOf ds) tab′ n (a .slots) b
-  idle-keeps tab′ closed o e p k = e ∙ k
-  idle-keeps tab′ (listing c) o e p k = record { act = e ∙ k .act; shown = k .shown; place = p ∙ k .place }
-  idle-keeps tab′ (reading s j i) o e p k = absurd (omega arith)
-  idle-keeps tab′ (writing s ub) o e p k = absurd (omega arith)
+  idle-keeps : (tab′ : List ℕ) (fs : List File) (b : Block) → opens b ≡ 0 → tb tab′ n 2 ≡ tb tab n 2 → tp tab′ n ≡ tp tab n → Keeps S (slotsOf ds) tab n (a .slots) b → Keeps S (slotsOf ds) tab′ n fs b
+  idle-keeps tab′ fs closed o e p k = e ∙ k
+  idle-keeps tab′ fs (listing c) o e p k = record { act = e ∙ k .act; shown = k .shown; place = p ∙ k .place }
+  idle-keeps tab′ fs (reading s j i) o e p k = absurd (omega arith)
+  idle-keeps tab′ fs (writing s ub) o e p k = absurd (omega arith)
 
-  -- the block of a ledger after stores that leave its activity and its place
-  pub idle-kept : (tab′ : List ℕ) → opens old ≡ 0 → tb tab′ n 2 ≡ tb tab n 2 → tp tab′ n ≡ tp tab n → Keeps S (slotsOf ds) tab′ n (a .slots) old
-  idle-kept tab′ o e p = idle-keeps tab′ old o e p (r .keeps n hn)
+  -- an idle block after stores that leave its activity and its place, whatever the files
+  pub idle-kept : (tab′ : List ℕ) (fs : List File) → opens old ≡ 0 → tb tab′ n 2 ≡ tb tab n 2 → tp tab′ n ≡ tp tab n → Keeps S (slotsOf ds) tab′ n fs old
+  idle-kept tab′ fs o e p = idle-keeps tab′ fs old o e p (r .keeps n hn)
 
   -- an idle block's activity and place are kept: presets, what is copied into it
   pub idle-quiet : (tab′ : List ℕ) → Turn tab tab′ n → opens old ≡ 0 → tb tab′ n 2 ≡ tb tab n 2 → tp tab′ n ≡ tp tab n → Agrees M S ds img tab′ a
-  idle-quiet tab′ t o e p = as-it-was tab′ t (idle-kept tab′ o e p)
+  idle-quiet tab′ t o e p = as-it-was tab′ t (idle-kept tab′ (a .slots) o e p)
 
   -- an activity of 0 or 16: nothing is open
   pub idle-opens : tb tab n 2 ≢ 1 → tb tab n 2 ≢ 2 → opens old ≡ 0
