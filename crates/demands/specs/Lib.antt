@@ -11,3 +11,5 @@ pub mod Fills
 pub mod Takes
 pub mod Opens
 pub mod Removes
+pub mod Lists
+pub mod Calls
