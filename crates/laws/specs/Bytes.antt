@@ -9,6 +9,8 @@ use lib.ListN.{length, getD, set, take, drop, replicate, List·getD-eq-default, 
 use lib.Seq.{sets, length-sets, getD-set-other, getD-set-same, set-out, getD-drop, ext-getD, drop-cons, take-suc, length-take-le, take-all}
 use borrow.Author.Tests.{eq-eqb, ne-eqb, eqb-true}
 use lib.Dec.{eqb}
+use mathlib.Core.Logic.{_≢_}
+use Rattle.rules.specs.Transfer.{fresh}
 use Rattle.rules.specs.Bytes.{pick, byteAt, wordAt, part, over, one, two, six, zeros, same}
 
 -- ---- numbers of two bytes
@@ -236,3 +238,26 @@ same-eq (x ∷ xs) (y ∷ ys) h = go (eqb x y) refl h (λ k. same-eq xs ys k)
     go : (b : Bool) → eqb x y ≡ b → pick b (same xs ys) false ≡ true → (same xs ys ≡ true → xs ≡ ys) → x ∷ xs ≡ y ∷ ys
     go true e k rest = ap₂ (λ (z : ℕ) (l : List ℕ). z ∷ l) (eqb-true x y e) (rest k)
     go false e k rest = absurd (never k)
+
+-- ---- a new sector
+
+pub length-fresh : (size : ℕ) → length (fresh size) ≡ 256
+unfolding fresh
+length-fresh size = simp length-set (length-zeros 256)
+
+-- its link is 0,0 and its data are zeros; its record number is the size
+pub fresh-zero : (size i : ℕ) → i ≢ 2 → i ≢ 3 → getD (fresh size) i 0 ≡ 0
+unfolding fresh
+fresh-zero size i h k =
+    getD-set-other (set (zeros 256) 2 (size / 256 % 256)) 3 i (size % 256) 0 k
+    ∙ getD-set-other (zeros 256) 2 i (size / 256 % 256) 0 h
+    ∙ zeros-at 256 i
+
+pub fresh-record : (size : ℕ) → size < 65536 → wordAt (fresh size) 2 ≡ size
+unfolding fresh
+fresh-record size h =
+    let l : length (zeros 256) ≡ 256 = length-zeros 256 in
+    word-put (fresh size) 2 size h
+    (getD-set-other (set (zeros 256) 2 (size / 256 % 256)) 3 2 (size % 256) 0 (omega arith)
+    ∙ getD-set-same (zeros 256) 2 (size / 256 % 256) 0 (omega arith))
+    (getD-set-same (set (zeros 256) 2 (size / 256 % 256)) 3 (size % 256) 0 (rw length-set (omega arith)))

@@ -1,0 +1,227 @@
+-- Shape, addresses (track, sector) and indices of sectors, and the way between them. The only arithmetic that is not linear stands here.
+use mathlib.Core.Path.{_≡_, sym, ap, _∙_}
+use mathlib.Core.Bool.{true}
+use mathlib.Core.List.{List}
+use Prim.Native.Nat.{ℕ, _+_, _-_, _*_, _/_, _%_, _≤_, _<_}
+use native.Mathlib.Nat.{div-add-mod', mod-lt, mul-le-mul, mul-le-mul-right, div-lt-iff-lt-mul, le-div-iff-mul-le}
+use native.Mathlib.Omega.{arith}
+use lib.Arith.{digits-lt, digits-div, digits-mod}
+use lib.ListN.{length}
+use lib.Dec.{eqb, leb}
+use borrow.Author.Tests.{leb-true, le-leb, eqb-true, eq-eqb}
+use Rattle.rules.specs.Bytes.{within}
+use Rattle.rules.specs.Image.{mostTracks, mostSectors, lastTrack, perTrack, shapeRight, trackOf, sectorOf, index, isSector, isData, dataNumber}
+use Rattle.rules.specs.Directory.{isDirectory}
+use Rattle.laws.specs.Tests.{both, within-is, within-true}
+
+-- with its arguments named, for the numerals among them
+product : (a b c d : ℕ) → a ≤ b → c ≤ d → a * c ≤ b * d
+product a b c d h k = mul-le-mul h k
+
+-- ---- shape
+
+-- M and S are within their limits
+pub record Shape (M S : ℕ) : Type 0 where
+  pub tracks : 1 ≤ M
+  pub most-tracks : M ≤ mostTracks
+  pub sectors : 5 ≤ S
+  pub most-sectors : S ≤ mostSectors
+
+module _ (M S : ℕ) (z : Shape M S) where
+  -- how many sectors an image has, and data sectors
+  pub sectors-few : (M + 1) * S ≤ (mostTracks + 1) * mostSectors
+  sectors-few = product (M + 1) (mostTracks + 1) S mostSectors (omega (arith, z)) (z .most-sectors)
+
+  pub data-few : M * S ≤ mostTracks * mostSectors
+  data-few = product M mostTracks S mostSectors (z .most-tracks) (z .most-sectors)
+
+  pub sectors-many : 10 ≤ (M + 1) * S
+  sectors-many = product 2 (M + 1) 5 S (omega (arith, z)) (z .sectors)
+
+-- an image of this shape
+pub record Shaped (img : List ℕ) : Type 0 where
+  pub shape : Shape (lastTrack img) (perTrack img)
+  pub long : length img ≡ (lastTrack img + 1) * perTrack img * 256
+
+pub shape-is : (img : List ℕ) → shapeRight img ≡ true → Shaped img
+unfolding shapeRight
+shape-is img h =
+    let r = both (leb 552 (length img)) _ h in
+    let s = both (within 1 mostTracks (lastTrack img)) _ (r .1) in
+    let t = both (within 5 mostSectors (perTrack img)) _ (s .1) in
+    let m = within-is 1 mostTracks (lastTrack img) (s .0) in
+    let n = within-is 5 mostSectors (perTrack img) (t .0) in
+    record { shape = record { tracks = m .0; most-tracks = m .1; sectors = n .0; most-sectors = n .1 }; long = eqb-true _ _ (t .1) }
+
+pub shape-true : (img : List ℕ) → Shaped img → shapeRight img ≡ true
+unfolding shapeRight
+shape-true img z =
+    let l : 552 ≤ length img = omega (arith, z .long, sectors-many (lastTrack img) (perTrack img) (z .shape)) in
+    rw (
+      le-leb 552 (length img) l,
+      within-true 1 mostTracks (lastTrack img) (z .shape .tracks) (z .shape .most-tracks),
+      within-true 5 mostSectors (perTrack img) (z .shape .sectors) (z .shape .most-sectors),
+    )
+    (eq-eqb _ _ (z .long))
+
+-- a sector lies inside the image
+pub sector-inside : (img : List ℕ) → Shaped img → (k : ℕ) → k < (lastTrack img + 1) * perTrack img → 256 * k + 256 ≤ length img
+sector-inside img z k h = omega (arith, z .long)
+
+-- so does each of track 0
+pub track-inside : (img : List ℕ) → Shaped img → (k : ℕ) → k < perTrack img → 256 * k + 256 ≤ length img
+track-inside img z k h = sector-inside img z k (omega arith)
+
+-- ---- addresses
+
+-- the track lies between t and u, the sector between r and s
+pub record Lies (t u r s a : ℕ) : Type 0 where
+  pub track-low : t ≤ trackOf a
+  pub track-high : trackOf a ≤ u
+  pub sector-low : r ≤ sectorOf a
+  pub sector-high : sectorOf a ≤ s
+
+pub data-is : (M S a : ℕ) → isData M S a ≡ true → Lies 1 M 1 S a
+unfolding isData
+data-is M S a h =
+    let q = both (within 1 M (trackOf a)) _ h in
+    let m = within-is 1 M (trackOf a) (q .0) in
+    let n = within-is 1 S (sectorOf a) (q .1) in
+    record { track-low = m .0; track-high = m .1; sector-low = n .0; sector-high = n .1 }
+
+pub data-true : (M S a : ℕ) → Lies 1 M 1 S a → isData M S a ≡ true
+unfolding isData
+data-true M S a l = rw (within-true 1 M (trackOf a) (l .track-low) (l .track-high)) (within-true 1 S (sectorOf a) (l .sector-low) (l .sector-high))
+
+pub sector-is : (M S a : ℕ) → isSector M S a ≡ true → Lies 0 M 1 S a
+unfolding isSector
+sector-is M S a h =
+    let q = both (leb (trackOf a) M) _ h in
+    let n = within-is 1 S (sectorOf a) (q .1) in
+    record { track-low = omega arith; track-high = leb-true _ M (q .0); sector-low = n .0; sector-high = n .1 }
+
+pub sector-true : (M S a : ℕ) → Lies 0 M 1 S a → isSector M S a ≡ true
+unfolding isSector
+sector-true M S a l = rw (le-leb (trackOf a) M (l .track-high)) (within-true 1 S (sectorOf a) (l .sector-low) (l .sector-high))
+
+pub directory-is : (S a : ℕ) → isDirectory S a ≡ true → Lies 0 0 5 S a
+unfolding isDirectory
+directory-is S a h =
+    let q = both (eqb (trackOf a) 0) _ h in
+    let n = within-is 5 S (sectorOf a) (q .1) in
+    record { track-low = omega arith; track-high = omega (arith, eqb-true (trackOf a) 0 (q .0)); sector-low = n .0; sector-high = n .1 }
+
+pub directory-true : (S a : ℕ) → Lies 0 0 5 S a → isDirectory S a ≡ true
+unfolding isDirectory
+directory-true S a l = rw (eq-eqb (trackOf a) 0 (omega (arith, l .track-high))) (within-true 5 S (sectorOf a) (l .sector-low) (l .sector-high))
+
+-- a data sector exists
+pub data-sector : (M S a : ℕ) → Lies 1 M 1 S a → Lies 0 M 1 S a
+data-sector M S a l = record { track-low = omega arith; track-high = l .track-high; sector-low = l .sector-low; sector-high = l .sector-high }
+
+-- ---- from an address to its index
+
+module _ (t u S a : ℕ) (l : Lies t u 1 S a) where
+  index-is : index S a ≡ trackOf a * S + (sectorOf a - 1)
+  unfolding index
+  index-is = omega (arith, l .sector-low)
+
+  pub index-low : t * S ≤ index S a
+  index-low = omega (arith, index-is, mul-le-mul-right S (l .track-low))
+
+  pub index-high : index S a < (u + 1) * S
+  index-high = rw index-is (digits-lt (omega (arith, l .track-high)) (omega (arith, l .sector-low, l .sector-high)))
+
+-- of a data sector: behind track 0, inside the image
+module _ (M S a : ℕ) (l : Lies 1 M 1 S a) where
+  pub data-low : S ≤ index S a
+  data-low = omega (arith, index-low 1 M S a l)
+
+  pub data-high : index S a < (M + 1) * S
+  data-high = index-high 1 M S a l
+
+  pub number-high : dataNumber S (index S a) < M * S
+  number-high = omega (arith, data-low, data-high)
+
+-- of a sector of the directory
+pub index-directory : (S a : ℕ) → Lies 0 0 5 S a → index S a ≡ sectorOf a - 1
+unfolding index
+index-directory S a l = rw (let e : trackOf a ≡ 0 = omega (arith, l .track-high) in e) (omega arith)
+
+-- of any address
+pub index-small : (S a : ℕ) → S < 256 → index S a < 65536
+unfolding index
+index-small S a h = omega (arith, product (trackOf a) 255 S 255 (omega arith) (omega arith))
+
+-- ---- from an index to its address
+
+-- the address of the sector with the index k
+unfoldable pub addressOf : ℕ → ℕ → ℕ
+addressOf S k = 256 * (k / S) + k % S + 1
+
+-- there and back
+pub address-index : (M S a : ℕ) → Lies 0 M 1 S a → a < 65536 → addressOf S (index S a) ≡ a
+unfolding addressOf
+address-index M S a l h =
+    let r : sectorOf a - 1 < S = omega (arith, l .sector-low, l .sector-high) in
+    rw (index-is 0 M S a l, digits-div (trackOf a) {m = S} r, digits-mod (trackOf a) {m = S} r) (omega (arith, l .sector-low))
+
+-- an address is known by its index
+pub index-inj : (M S a b : ℕ) → Lies 0 M 1 S a → Lies 0 M 1 S b → a < 65536 → b < 65536 → index S a ≡ index S b → a ≡ b
+index-inj M S a b l k h j e = sym (address-index M S a l h) ∙ ap (addressOf S) e ∙ address-index M S b k j
+
+-- a data sector by its number
+pub number-inj : (M S a b : ℕ) → Lies 1 M 1 S a → Lies 1 M 1 S b → a < 65536 → b < 65536 → dataNumber S (index S a) ≡ dataNumber S (index S b) → a ≡ b
+number-inj M S a b l k h j e =
+    index-inj M S a b (data-sector M S a l) (data-sector M S b k) h j (omega (arith, data-low M S a l, data-low M S b k))
+
+-- the sectors from track t to track u
+module _ (t u S k : ℕ) (low : t * S ≤ k) (high : k < (u + 1) * S) (few : u < 256) (pos : 1 ≤ S) (some : S < 256) where
+  rest : k % S < S
+  rest = mod-lt k pos
+
+  from : t ≤ k / S
+  from = le-div-iff-mul-le pos .1 low
+
+  upto : k / S < u + 1
+  upto = div-lt-iff-lt-mul pos .1 high
+
+  high-byte : trackOf (addressOf S k) ≡ k / S
+  unfolding addressOf
+  high-byte = omega (arith, rest, upto)
+
+  low-byte : sectorOf (addressOf S k) ≡ k % S + 1
+  unfolding addressOf
+  low-byte = omega (arith, rest)
+
+  pub address-lies : Lies t u 1 S (addressOf S k)
+  address-lies =
+      record {
+        track-low = omega (arith, high-byte, from);
+        track-high = omega (arith, high-byte, upto);
+        sector-low = omega (arith, low-byte);
+        sector-high = omega (arith, low-byte, rest);
+      }
+
+  pub address-small : addressOf S k < 65536
+  unfolding addressOf
+  address-small = omega (arith, rest, upto)
+
+  pub index-address : index S (addressOf S k) ≡ k
+  index-address =
+      index-is t u S (addressOf S k) address-lies
+      ∙ rw (high-byte, low-byte) (omega (arith, div-add-mod' k S))
+
+-- a data sector of an image of this shape, from its index
+module _ (M S : ℕ) (z : Shape M S) (k : ℕ) (low : S ≤ k) (high : k < (M + 1) * S) where
+  from-track : 1 * S ≤ k
+  from-track = omega arith
+
+  pub data-address : isData M S (addressOf S k) ≡ true
+  data-address = data-true M S (addressOf S k) (address-lies 1 M S k from-track high (omega (arith, z)) (omega (arith, z)) (omega (arith, z)))
+
+  pub data-address-small : addressOf S k < 65536
+  data-address-small = address-small 1 M S k from-track high (omega (arith, z)) (omega (arith, z)) (omega (arith, z))
+
+  pub data-address-index : index S (addressOf S k) ≡ k
+  data-address-index = index-address 1 M S k from-track high (omega (arith, z)) (omega (arith, z)) (omega (arith, z))

@@ -1,0 +1,318 @@
+-- The directory: where its sectors and slots lie, what a scan finds, places and slots, and what leaves it as it is.
+use mathlib.Core.Path.{_≡_, refl, sym, ap, _∙_}
+use mathlib.Core.Bool.{true, false}
+use mathlib.Core.List.{List, [], _∷_, _++_}
+use Prim.Native.Nat.{ℕ, zero, suc, _+_, _-_, _*_, _/_, _%_, _≤_, _<_}
+use native.Mathlib.Omega.{arith}
+use native.Mathlib.Decide.{decLt}
+use lib.ListN.{getD}
+use lib.Dec.{eqb, ltb}
+use borrow.Author.Tests.{eqb-true, eq-eqb, ltb-true}
+use Rattle.rules.specs.Bytes.{within}
+use Rattle.rules.specs.Image.{index, linkOf}
+use Rattle.rules.specs.Directory.{isDirectory, stepTo, nextOf, onNext, mostOfDirectory, firstOfDirectory, ends, directoryRight, sectorsFrom, directory, slotsAt, firstSlotOf, slotsOf, slots, onSeen, scan, named, vacant, lookupOf, inDirectory, find, vacancy, member, isDisplacement, placed, placeOf, slotBehind}
+use Rattle.rules.specs.declared.Next.{Next}
+use Rattle.rules.specs.declared.Next.the-variants.{End, To, Astray}
+use Rattle.rules.specs.declared.Seen.{Seen}
+use Rattle.rules.specs.declared.Seen.the-variants.{Hit, Stop, Pass}
+use Rattle.rules.specs.declared.Found.{Found}
+use Rattle.rules.specs.declared.Found.the-variants.{Slot, Stopped, Further}
+use Rattle.rules.specs.declared.Lookup.{Lookup}
+use Rattle.rules.specs.declared.Lookup.the-variants.{At, Missing, Broken}
+use Rattle.laws.specs.Tests.{clash, never, both, either, within-is, within-true, pick-cases}
+use Rattle.laws.specs.Each.{Each, each-append, each-so, each-member, member-here, member-there, member-left, member-right}
+use Rattle.laws.specs.Addresses.{Lies, directory-is, directory-true, index-directory}
+
+-- ---- sectors of the directory
+
+-- on track 0, from the fifth sector on
+abbrev pub InDirectory : ℕ → ℕ → Type 0
+InDirectory S k = (4 ≤ k) × (k < S)
+
+pub step-in : (S a k : ℕ) → stepTo S a ≡ To k → InDirectory S k
+unfolding stepTo
+step-in S a k =
+    pick-cases (λ (n : Next). n ≡ To k → InDirectory S k) (eqb a 0) End _
+    (λ e h. clash (cc))
+    (λ e. pick-cases (λ (n : Next). n ≡ To k → InDirectory S k) (isDirectory S a) (To (index S a)) Astray
+    (λ d h. let l = directory-is S a d in let q : index S a ≡ k = cc in let i = index-directory S a l in (omega (arith, l), omega (arith, l)))
+    (λ d h. clash (cc)))
+
+-- what holds of the three ways on
+pub onNext-all : {A : Type 0} (P : A → Type 0) (n : Next) (e w : A) (f : ℕ → A) → P e → P w → ((k : ℕ) → n ≡ To k → P (f k)) → P (onNext n e w f)
+onNext-all P End e w f p q r = p
+onNext-all P (To k) e w f p q r = r k refl
+onNext-all P Astray e w f p q r = q
+
+sectors-in : (img : List ℕ) (S n k : ℕ) → InDirectory S k → Each (InDirectory S) (sectorsFrom img S n k)
+unfolding sectorsFrom
+sectors-in img S zero k h = tt
+sectors-in img S (suc n) k h = (
+  h,
+  onNext-all (Each (InDirectory S)) (nextOf img S k) [] [] (λ j. sectorsFrom img S n j) tt tt
+      (λ j e. sectors-in img S n j (step-in S (linkOf img k) j e)),
+)
+
+pub directory-in : (img : List ℕ) (S : ℕ) → Each (InDirectory S) (directory img S)
+unfolding directory sectorsFrom
+directory-in img S = go (mostOfDirectory S) refl
+  where
+    go : (n : ℕ) → mostOfDirectory S ≡ n → Each (InDirectory S) (sectorsFrom img S n firstOfDirectory)
+    go zero e = tt
+    go (suc n) e = sectors-in img S (suc n) firstOfDirectory (omega arith, omega arith)
+
+-- ---- slots
+
+-- where a slot begins: in the sector o / 256 of the directory, at the displacement o % 256
+pub record IsSlot (S o : ℕ) : Type 0 where
+  pub sector-low : 4 ≤ o / 256
+  pub sector-high : o / 256 < S
+  pub low : 16 ≤ o % 256
+  pub high : o % 256 ≤ 232
+  pub step : (o % 256 - 16) % 24 ≡ 0
+
+pub displacement-is : (d : ℕ) → isDisplacement d ≡ true → (16 ≤ d) × (d ≤ 232) × ((d - 16) % 24 ≡ 0)
+unfolding isDisplacement
+displacement-is d h =
+    let q = both (within 16 232 d) _ h in
+    let w = within-is 16 232 d (q .0) in
+    (w .0, w .1, eqb-true _ 0 (q .1))
+
+pub displacement-true : (S o : ℕ) → IsSlot S o → isDisplacement (o % 256) ≡ true
+unfolding isDisplacement
+displacement-true S o s = rw (within-true 16 232 (o % 256) (s .low) (s .high)) (eq-eqb _ 0 (s .step))
+
+-- a slot from its sector and displacement
+pub slot-made : (S k d : ℕ) → InDirectory S k → isDisplacement d ≡ true → IsSlot S (256 * k + d)
+slot-made S k d h e =
+    let w = displacement-is d e in
+    let q : (256 * k + d) / 256 ≡ k = omega arith in
+    let r : (256 * k + d) % 256 ≡ d = omega arith in
+    record { sector-low = omega arith; sector-high = omega arith; low = omega arith; high = omega arith; step = rw r (w .2) }
+
+slots-at : (S k i n at : ℕ) → InDirectory S k → i + n ≤ 10 → at ≡ 256 * k + (16 + 24 * i) → Each (IsSlot S) (slotsAt at n)
+unfolding slotsAt isDisplacement
+slots-at S k i zero at h l e = tt
+slots-at S k i (suc n) at h l e =
+    let d : isDisplacement (16 + 24 * i) ≡ true = rw (within-true 16 232 (16 + 24 * i) (omega arith) (omega arith)) (eq-eqb ((16 + 24 * i - 16) % 24) 0 (omega arith)) in
+    (rw e (slot-made S k (16 + 24 * i) h d), slots-at S k (i + 1) n (at + 24) h (omega arith) (omega arith))
+
+slots-of : (S : ℕ) (ks : List ℕ) → Each (InDirectory S) ks → Each (IsSlot S) (slotsOf ks)
+unfolding slotsOf
+slots-of S [] h = tt
+slots-of S (k ∷ ks) h =
+    each-append (IsSlot S) (slotsAt (firstSlotOf k) 10) (slotsOf ks) (slots-at S k 0 10 (firstSlotOf k) (h .0) (omega arith) (omega arith)) (slots-of S ks (h .1))
+
+pub slots-are : (img : List ℕ) (S : ℕ) → Each (IsSlot S) (slots img S)
+slots-are img S = slots-of S (directory img S) (directory-in img S)
+
+pub slot-is : (img : List ℕ) (S o : ℕ) → member o (slots img S) ≡ true → IsSlot S o
+slot-is img S o h = each-member (IsSlot S) (slots img S) o (slots-are img S) h
+
+-- a slot's number in its sector
+pub slot-number : (S o : ℕ) → IsSlot S o → (i : ℕ) × (i < 10) × (o ≡ 256 * (o / 256) + (16 + 24 * i))
+slot-number S o s = ((o % 256 - 16) / 24, omega arith, omega arith)
+
+-- two slots do not overlap
+pub slots-apart : (S o p : ℕ) → IsSlot S o → IsSlot S p → o < p → o + 24 ≤ p
+slots-apart S o p s t h = go (slot-number S o s) (slot-number S p t) (decLt (o / 256) (p / 256))
+  where
+    go : (i : ℕ) × (i < 10) × (o ≡ 256 * (o / 256) + (16 + 24 * i)) → (i : ℕ) × (i < 10) × (p ≡ 256 * (p / 256) + (16 + 24 * i))
+        → Dec (o / 256 < p / 256) → o + 24 ≤ p
+    go (i, a, b) (j, c, d) (yes l) = omega arith
+    go (i, a, b) (j, c, d) (no l) = let e : o / 256 ≡ p / 256 = omega arith in let m : i < j = omega arith in omega arith
+
+-- ---- scans
+
+-- a scan that went on to the end goes on in the rest
+abbrev pub further : Found → Found → Found
+further (Slot o) g = Slot o
+further Stopped g = Stopped
+further Further g = g
+
+pub scan-append : (look : ℕ → Seen) (os ps : List ℕ) → scan look (os ++ ps) ≡ further (scan look os) (scan look ps)
+unfolding scan
+scan-append look [] ps = refl
+scan-append look (o ∷ os) ps = go (look o) (scan-append look os ps)
+  where
+    go : (s : Seen) → scan look (os ++ ps) ≡ further (scan look os) (scan look ps)
+        → onSeen s (Slot o) Stopped (scan look (os ++ ps)) ≡ further (onSeen s (Slot o) Stopped (scan look os)) (scan look ps)
+    go Hit e = refl
+    go Stop e = refl
+    go Pass e = e
+
+-- what is found is one of the slots, and a hit
+pub scan-found : (look : ℕ → Seen) (os : List ℕ) (o : ℕ) → scan look os ≡ Slot o → (member o os ≡ true) × (look o ≡ Hit)
+unfolding scan
+scan-found look [] o h = clash (cc)
+scan-found look (p ∷ os) o h = go (look p) refl h (λ k. scan-found look os o k)
+  where
+    go : (s : Seen) → look p ≡ s → onSeen s (Slot p) Stopped (scan look os) ≡ Slot o → (scan look os ≡ Slot o → (member o os ≡ true) × (look o ≡ Hit))
+        → (member o (p ∷ os) ≡ true) × (look o ≡ Hit)
+    go Hit e k rest = let q : p ≡ o = cc in (rw (← q) (member-here p os), ap look (sym q) ∙ e)
+    go Stop e k rest = clash (cc)
+    go Pass e k rest = let r = rest k in (member-there o p os (r .0), r .1)
+
+-- where a scan went on to the end, it passed each
+pub scan-further : (look : ℕ → Seen) (os : List ℕ) → scan look os ≡ Further → Each (λ (o : ℕ). look o ≡ Pass) os
+unfolding scan
+scan-further look [] h = tt
+scan-further look (p ∷ os) h = go (look p) refl h (λ k. scan-further look os k)
+  where
+    go : (s : Seen) → look p ≡ s → onSeen s (Slot p) Stopped (scan look os) ≡ Further → (scan look os ≡ Further → Each (λ (o : ℕ). look o ≡ Pass) os)
+        → Each (λ (o : ℕ). look o ≡ Pass) (p ∷ os)
+    go Hit e k rest = clash (cc)
+    go Stop e k rest = clash (cc)
+    go Pass e k rest = (e, rest k)
+
+-- ---- lookups
+
+-- a slot of a directory that is right
+pub record OneOf (img : List ℕ) (S o : ℕ) : Type 0 where
+  pub right : directoryRight img S ≡ true
+  pub one-of : member o (slots img S) ≡ true
+  pub slot : IsSlot S o
+
+lookup-at : (g : Found) (o : ℕ) → lookupOf g ≡ At o → g ≡ Slot o
+lookup-at (Slot p) o h = let q : p ≡ o = cc in ap Slot q
+lookup-at Stopped o h = clash (cc)
+lookup-at Further o h = clash (cc)
+
+in-directory-is : (img : List ℕ) (S : ℕ) (look : ℕ → Seen) (o : ℕ) → inDirectory img S look ≡ At o → OneOf img S o × (look o ≡ Hit)
+in-directory-is img S look o =
+    pick-cases (λ (l : Lookup). l ≡ At o → OneOf img S o × (look o ≡ Hit)) (directoryRight img S) (lookupOf (scan look (slots img S))) Broken
+    (λ e h. let f = scan-found look (slots img S) o (lookup-at (scan look (slots img S)) o h) in
+    (record { right = e; one-of = f .0; slot = slot-is img S o (f .0) }, f .1))
+    (λ e h. clash (cc))
+
+pub find-is : (img : List ℕ) (S : ℕ) (name : List ℕ) (o : ℕ) → find img S name ≡ At o → OneOf img S o × (named img name o ≡ Hit)
+unfolding find
+find-is img S name o h = in-directory-is img S (named img name) o h
+
+pub vacancy-is : (img : List ℕ) (S o : ℕ) → vacancy img S ≡ At o → OneOf img S o × (vacant img o ≡ Hit)
+unfolding vacancy
+vacancy-is img S o h = in-directory-is img S (vacant img) o h
+
+-- ---- places
+
+slots-at-member : (at i n : ℕ) → i < n → member (at + 24 * i) (slotsAt at n) ≡ true
+unfolding slotsAt
+slots-at-member at i zero h = absurd (omega arith)
+slots-at-member at zero (suc n) h = rw (let e : at + 24 * 0 ≡ at = omega arith in e) (member-here at (slotsAt (at + 24) n))
+slots-at-member at (suc i) (suc n) h =
+    member-there (at + 24 * suc i) at (slotsAt (at + 24) n)
+    (rw (let e : at + 24 * suc i ≡ at + 24 + 24 * i = omega arith in e) (slots-at-member (at + 24) i n (omega arith)))
+
+-- each displacement of a sector of the directory is a slot of it
+pub slots-member : (ks : List ℕ) (k d : ℕ) → member k ks ≡ true → isDisplacement d ≡ true → member (256 * k + d) (slotsOf ks) ≡ true
+unfolding slotsOf member
+slots-member [] k d h e = absurd (never h)
+slots-member (j ∷ ks) k d h e =
+    either (eqb j k) (member k ks) h
+    (λ q. let w = displacement-is d e in
+    member-left (256 * k + d) (slotsAt (firstSlotOf j) 10) (slotsOf ks)
+    (rw (let r : 256 * k + d ≡ firstSlotOf j + 24 * ((d - 16) / 24) = omega (arith, eqb-true j k q) in r) (slots-at-member (firstSlotOf j) ((d - 16) / 24) 10 (omega arith))))
+    (λ q. member-right (256 * k + d) (slotsAt (firstSlotOf j) 10) (slotsOf ks) (slots-member ks k d q e))
+
+-- the sector of a slot of the directory is one of its sectors
+pub slot-sector : (img : List ℕ) (S o : ℕ) → member o (slots img S) ≡ true → member (o / 256) (directory img S) ≡ true
+unfolding slotsAt slotsOf
+slot-sector img S o h = each-member (λ (p : ℕ). member (p / 256) (directory img S) ≡ true) (slots img S) o (all (directory img S)) h
+  where
+    sector : (ks : List ℕ) (k i n at : ℕ) → i + n ≤ 10 → at ≡ 256 * k + (16 + 24 * i) → member k ks ≡ true → Each (λ (p : ℕ). member (p / 256) ks ≡ true) (slotsAt at n)
+    sector ks k i zero at l e m = tt
+    sector ks k i (suc n) at l e m = (rw (let q : at / 256 ≡ k = omega arith in q) m, sector ks k (i + 1) n (at + 24) (omega arith) (omega arith) m)
+
+    all : (ks : List ℕ) → Each (λ (p : ℕ). member (p / 256) ks ≡ true) (slotsOf ks)
+    all [] = tt
+    all (k ∷ ks) =
+        each-append (λ (p : ℕ). member (p / 256) (k ∷ ks) ≡ true) (slotsAt (firstSlotOf k) 10) (slotsOf ks)
+        (sector (k ∷ ks) k 0 10 (firstSlotOf k) (omega arith) (omega arith) (member-here k ks))
+        (each-so (λ (p : ℕ). member (p / 256) ks ≡ true) (λ (p : ℕ). member (p / 256) (k ∷ ks) ≡ true) (slotsOf ks) (λ p m. member-there (p / 256) k ks m) (all ks))
+
+-- the slot that a place names, and the place of a slot
+pub placed-is : (img : List ℕ) (S a d o : ℕ) → placed img S a d ≡ At o → OneOf img S o × (o ≡ 256 * index S a + d)
+unfolding placed
+placed-is img S a d o =
+    pick-cases P (directoryRight img S) _ Broken
+    (λ r. pick-cases P (isDirectory S a) _ Missing
+    (λ i. pick-cases P (member (index S a) (directory img S)) _ Missing
+    (λ m. pick-cases P (isDisplacement d) (At (256 * index S a + d)) Missing
+    (λ e h. let q : 256 * index S a + d ≡ o = cc in
+    let w : member o (slots img S) ≡ true = rw (← q) (slots-member (directory img S) (index S a) d m e) in
+    (record { right = r; one-of = w; slot = slot-is img S o w }, sym q))
+    (λ e h. clash (cc)))
+    (λ m h. clash (cc)))
+    (λ i h. clash (cc)))
+    (λ r h. clash (cc))
+  where
+    P : Lookup → Type 0
+    P l = l ≡ At o → OneOf img S o × (o ≡ 256 * index S a + d)
+
+pub placed-slot : (img : List ℕ) (S o : ℕ) → S < 256 → OneOf img S o → placed img S (o / 256 + 1) (o % 256) ≡ At o
+unfolding placed
+placed-slot img S o few p =
+    let s = p .slot in
+    let l : Lies 0 0 5 S (o / 256 + 1) = record { track-low = omega arith; track-high = omega (arith, s); sector-low = omega (arith, s); sector-high = omega (arith, s) } in
+    let k : index S (o / 256 + 1) ≡ o / 256 = index-directory S (o / 256 + 1) l ∙ omega (arith, s) in
+    rw (p .right, directory-true S (o / 256 + 1) l, k, slot-sector img S o (p .one-of), displacement-true S o s) (ap At (omega arith))
+
+-- a slot is known by its place
+pub place-inj : (S o p : ℕ) → S < 256 → IsSlot S o → IsSlot S p → placeOf o ≡ placeOf p → o ≡ p
+unfolding placeOf
+place-inj S o p few s t e =
+    let a : (o / 256 + 1) % 256 ≡ (p / 256 + 1) % 256 = ap (λ (l : List ℕ). getD l 1 0) e in
+    let b : o % 256 ≡ p % 256 = ap (λ (l : List ℕ). getD l 2 0) e in
+    omega arith
+
+-- the slot behind a slot
+slot-next : (S o : ℕ) → IsSlot S o → o % 256 < 232 → IsSlot S (o + 24)
+slot-next S o s h =
+    let r : (o + 24) % 256 ≡ o % 256 + 24 = omega arith in
+    let q : (o + 24) / 256 ≡ o / 256 = omega arith in
+    let t : (o + 24) % 256 ≤ 232 = omega arith in
+    record { sector-low = rw q (s .sector-low); sector-high = rw q (s .sector-high); low = omega arith; high = t; step = rw r (omega arith) }
+
+pub behind-is : (img : List ℕ) (S o p : ℕ) → IsSlot S o → slotBehind img S o ≡ At p → IsSlot S p
+unfolding slotBehind isDisplacement within
+behind-is img S o p s =
+    pick-cases P (ltb (o % 256) 232) (At (o + 24)) _
+    (λ e h. let q : o + 24 ≡ p = cc in rw (← q) (slot-next S o s (ltb-true (o % 256) 232 e)))
+    (λ e. onNext-all P (nextOf img S (o / 256)) Missing Broken (λ k. At (firstSlotOf k))
+    (λ h. clash (cc))
+    (λ h. clash (cc))
+    (λ k n h. let q : firstSlotOf k ≡ p = cc in rw (← q) (slot-made S k 16 (step-in S (linkOf img (o / 256)) k n) refl)))
+  where
+    P : Lookup → Type 0
+    P l = l ≡ At p → IsSlot S p
+
+-- ---- images with the same links have the same directory
+
+onNext-same : {A : Type 0} (n m : Next) (e w : A) (f g : ℕ → A) → n ≡ m → ((k : ℕ) → m ≡ To k → f k ≡ g k) → onNext n e w f ≡ onNext m e w g
+onNext-same n End e w f g q h = rw q refl
+onNext-same n (To k) e w f g q h = rw q (h k refl)
+onNext-same n Astray e w f g q h = rw q refl
+
+module _ (img img′ : List ℕ) (S : ℕ) (same : (k : ℕ) → InDirectory S k → linkOf img′ k ≡ linkOf img k) where
+  on-same : {A : Type 0} (k : ℕ) (e w : A) (f g : ℕ → A) → InDirectory S k → ((j : ℕ) → InDirectory S j → f j ≡ g j)
+      → onNext (nextOf img′ S k) e w f ≡ onNext (nextOf img S k) e w g
+  on-same k e w f g h s =
+      onNext-same (nextOf img′ S k) (nextOf img S k) e w f g (ap (stepTo S) (same k h)) (λ j t. s j (step-in S (linkOf img k) j t))
+
+  sectors-same : (n k : ℕ) → InDirectory S k → sectorsFrom img′ S n k ≡ sectorsFrom img S n k
+  unfolding sectorsFrom
+  sectors-same zero k h = refl
+  sectors-same (suc n) k h = ap (λ (l : List ℕ). k ∷ l) (on-same k [] [] _ _ h (λ j i. sectors-same n j i))
+
+  ends-same : (n k : ℕ) → InDirectory S k → ends img′ S n k ≡ ends img S n k
+  unfolding ends
+  ends-same zero k h = refl
+  ends-same (suc n) k h = on-same k true false _ _ h (λ j i. ends-same n j i)
+
+  pub directory-same : 5 ≤ S → directory img′ S ≡ directory img S
+  unfolding directory
+  directory-same h = sectors-same (mostOfDirectory S) firstOfDirectory (omega arith)
+
+  pub right-same : 5 ≤ S → directoryRight img′ S ≡ directoryRight img S
+  unfolding directoryRight
+  right-same h = ends-same (mostOfDirectory S) firstOfDirectory (omega arith)
