@@ -86,13 +86,13 @@ module _ (M S : ℕ) (z : Shape M S) (ds : List ℕ) (d : Listing S ds) (img tab
       → Meets M S ds img tab n (pick (eqb code k) x y) (pick (eqb code k) x′ y′)
   by-code k x y x′ y′ = meets-pick M S ds img tab n (eqb code k) (eqb code k) x y x′ y′ refl
 
-  perform-meets : fits code (activity (block a n)) ≡ true → Meets M S ds img tab n (perform img tab M S (320 * n) b) (performed M S a n q)
+  perform-meets : tb tab n 3 ≡ 0 → fits code (activity (block a n)) ≡ true → Meets M S ds img tab n (perform img tab M S (320 * n) b) (performed M S a n q)
   unfolding perform performed
-  perform-meets h =
+  perform-meets dr h =
       let ok = fits-at code in
       by-code 0 _ _ _ _ (λ e0. transfer-meets (block a n) refl (ok 0 (block a n) (eqb-true code 0 e0) h))
-      (λ n0. by-code 1 _ _ _ _ (λ e1. open-read-meets M S z ds d img tab a r n hn b)
-      (λ n1. by-code 2 _ _ _ _ (λ e2. open-write-meets M S z ds d img tab a r n hn b)
+      (λ n0. by-code 1 _ _ _ _ (λ e1. open-read-meets M S z ds d img tab a r n hn dr b)
+      (λ n1. by-code 2 _ _ _ _ (λ e2. open-write-meets M S z ds d img tab a r n hn dr b)
       (λ n2. by-code 4 _ _ _ _ (λ e4. shut-meets (block a n) refl (ok 4 (block a n) (eqb-true code 4 e4) h))
       (λ n4. by-code 5 _ _ _ _ (λ e5. back-meets (block a n) refl (ok 5 (block a n) (eqb-true code 5 e5) h))
       (λ n5. by-code 6 _ _ _ _ (λ e6. open-directory-meets M S z ds d img tab a r n hn)
@@ -113,7 +113,7 @@ module _ (M S : ℕ) (z : Shape M S) (ds : List ℕ) (d : Listing S ds) (img tab
       rw (shape-right M S z img (r .shaped), r .shaped .last, r .shaped .per, act)
       (meets-unless M S ds img tab n (served code) (served code) 1 _ _ refl (omega arith)
       (λ h1. meets-unless M S ds img tab n _ (eqb (q .drive) 0) 16 _ _ refl (omega arith)
-      (λ h16. meets-unless M S ds img tab n (fits code (activity (block a n))) (fits code (activity (block a n))) (misfit code (activity (block a n))) _ _ refl (misfit-pos code (activity (block a n))) perform-meets)))
+      (λ h16. meets-unless M S ds img tab n (fits code (activity (block a n))) (fits code (activity (block a n))) (misfit code (activity (block a n))) _ _ refl (misfit-pos code (activity (block a n))) (perform-meets (eqb-true (tb tab n 3) 0 h16)))))
 
   -- THE CALL meets its fate
   pub call-met : Met M S ds img tab a n (call img tab n b) (fate M S a n q)

@@ -151,6 +151,7 @@ module _ (M S : ℕ) (z : Shape M S) (ds : List ℕ) (d : Listing S ds) (img tab
           unfolding one
           write-now = record {
             act = same 2 (omega arith) (omega arith) ∙ w .act;
+            drive = same 3 (omega arith) (omega arith) ∙ w .drive;
             slot = w .slot;
             live = w .live;
             place = tp-same tab tab′ n (λ i h. same i (omega arith) (omega arith)) ∙ w .place;
@@ -180,6 +181,7 @@ module _ (M S : ℕ) (z : Shape M S) (ds : List ℕ) (d : Listing S ds) (img tab
       unfolding one
       full-now b f′ es en so = record {
         act = fsame b 2 (omega arith) (omega arith) ∙ w .act;
+        drive = fsame b 3 (omega arith) (omega arith) ∙ w .drive;
         slot = w .slot;
         live = ap (λ (x : List ℕ). live x 0) en ∙ w .live;
         place = tp-same tab (puts tab (320 * n) (fs b)) n (λ i h. fsame b i (omega arith) (omega arith)) ∙ w .place;

@@ -82,6 +82,10 @@ module _ (M S : ℕ) (z : Shape M S) (ds : List ℕ) (d : Listing S ds) (img tab
   unfolding one placeOf
   open-zero i b c = at 2 (i - 30) i (omega arith) (omega (arith, length-zeros 6)) (omega arith) (omega arith) (omega arith) ∙ zeros-at 6 (i - 30)
 
+  open-drive : tb tab′ n 3 ≡ tb tab n 3
+  unfolding one placeOf
+  open-drive = puts-clear ps tab (320 * n) 3 (omega (arith, length-zeros 6))
+
   open-pos : t2 tab′ n 30 ≡ 0
   open-pos = word-put tab′ (320 * n + 30) 0 (omega arith) (open-zero 30 (omega arith) (omega arith)) (ap (λ (p : ℕ). getD tab′ p 0) (omega arith) ∙ open-zero 31 (omega arith) (omega arith))
 
@@ -94,7 +98,7 @@ word-part : (m : List ℕ) (p n i : ℕ) → i + 1 < n → wordAt (part m p n) i
 word-part m p n i h =
     word-same m (part m p n) (p + i) i (part-at m p n i (omega arith)) (part-at m p n (i + 1) h ∙ ap (λ (x : ℕ). getD m x 0) (omega arith))
 
-module _ (M S : ℕ) (z : Shape M S) (ds : List ℕ) (d : Listing S ds) (img tab : List ℕ) (a : Ledger) (r : Agrees M S ds img tab a) (n : ℕ) (hn : n < 8) where
+module _ (M S : ℕ) (z : Shape M S) (ds : List ℕ) (d : Listing S ds) (img tab : List ℕ) (a : Ledger) (r : Agrees M S ds img tab a) (n : ℕ) (hn : n < 8) (dr : tb tab n 3 ≡ 0) where
   -- ---- read
   module _ (s : ℕ) (hs : s < length (slotsOf ds)) (alive : live ((getD (a .slots) s noFile) .name) 0 ≡ true) where
     abbrev f : File
@@ -117,6 +121,7 @@ module _ (M S : ℕ) (z : Shape M S) (ds : List ℕ) (d : Listing S ds) (img tab
         now : Reading S (slotsOf ds) (tab′ M S z ds d img tab a r n hn 1 o es le) n f s 0 0
         now = record {
           act = open-act M S z ds d img tab a r n hn 1 o es le;
+          drive = open-drive M S z ds d img tab a r n hn 1 o es le ∙ dr;
           slot = hs;
           live = alive;
           place = open-place M S z ds d img tab a r n hn 1 o es le;
@@ -225,6 +230,7 @@ module _ (M S : ℕ) (z : Shape M S) (ds : List ℕ) (d : Listing S ds) (img tab
     keeps-made =
         record {
           act = open-act M S z ds d img tab a r n hn 2 p ne l24;
+          drive = open-drive M S z ds d img tab a r n hn 2 p ne l24 ∙ dr;
           slot = hs;
           live = alive;
           place = open-place M S z ds d img tab a r n hn 2 p ne l24;

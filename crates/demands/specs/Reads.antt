@@ -62,6 +62,7 @@ module _ (M S : ℕ) (z : Shape M S) (ds : List ℕ) (d : Listing S ds) (img tab
     gave-now : Reading S (slotsOf ds) (puts tab (320 * n) gave) n f s j ((i + 1) % 256)
     gave-now = record {
       act = same 2 (omega arith) ∙ w .act;
+      drive = same 3 (omega arith) ∙ w .drive;
       slot = w .slot;
       live = w .live;
       place = tp-same tab (puts tab (320 * n) gave) n (λ k h. same k (omega arith)) ∙ w .place;
@@ -151,6 +152,7 @@ module _ (M S : ℕ) (z : Shape M S) (ds : List ℕ) (d : Listing S ds) (img tab
     unfolding one two
     load-now = record {
       act = lsame 2 (omega arith) ∙ w .act;
+      drive = lsame 3 (omega arith) ∙ w .drive;
       slot = w .slot;
       live = w .live;
       place = tp-same tab tab′ n (λ k h. lsame′ k (omega arith)) ∙ w .place;
@@ -216,6 +218,7 @@ module _ (M S : ℕ) (z : Shape M S) (ds : List ℕ) (d : Listing S ds) (img tab
   unfolding one two
   rewind-now = record {
     act = rsame 2 (omega arith) (omega arith) (omega arith) (omega arith) ∙ w .act;
+    drive = rsame 3 (omega arith) (omega arith) (omega arith) (omega arith) ∙ w .drive;
     slot = w .slot;
     live = w .live;
     place = tp-same tab (puts tab (320 * n) rs) n (λ k h. rsame k (omega arith) (omega arith) (omega arith) (omega arith)) ∙ w .place;

@@ -60,6 +60,7 @@ pub record Holds (S : ℕ) (m : List ℕ) (o : ℕ) (f : File) : Type 0 where
 
 pub record Reading (S : ℕ) (os tab : List ℕ) (n : ℕ) (f : File) (s j i : ℕ) : Type 0 where
   pub act : tb tab n 2 ≡ 1
+  pub drive : tb tab n 3 ≡ 0
   pub slot : s < length os
   pub live : Rattle.rules.specs.Directory.live (f .name) 0 ≡ true
   pub place : tp tab n ≡ placeOf (getD os s 0)
@@ -74,6 +75,7 @@ pub record Reading (S : ℕ) (os tab : List ℕ) (n : ℕ) (f : File) (s j i : �
 
 pub record Writing (S : ℕ) (os tab : List ℕ) (n : ℕ) (f : File) (s : ℕ) (ub : List ℕ) : Type 0 where
   pub act : tb tab n 2 ≡ 2
+  pub drive : tb tab n 3 ≡ 0
   pub slot : s < length os
   pub live : Rattle.rules.specs.Directory.live (f .name) 0 ≡ true
   pub place : tp tab n ≡ placeOf (getD os s 0)
@@ -141,6 +143,7 @@ keeps-same S os tab tab′ n fs fs′ (listing p) r e k = record { act = r 2 (om
 keeps-same S os tab tab′ n fs fs′ (reading s j i) r e k =
     let t : Reading S os tab′ n (getD fs s noFile) s j i = record {
       act = r 2 (omega arith) ∙ k .act;
+      drive = r 3 (omega arith) ∙ k .drive;
       slot = k .slot;
       live = k .live;
       place = rest-place tab tab′ n r ∙ k .place;
@@ -157,6 +160,7 @@ keeps-same S os tab tab′ n fs fs′ (reading s j i) r e k =
 keeps-same S os tab tab′ n fs fs′ (writing s ub) r e k =
     let t : Writing S os tab′ n (getD fs s noFile) s ub = record {
       act = r 2 (omega arith) ∙ k .act;
+      drive = r 3 (omega arith) ∙ k .drive;
       slot = k .slot;
       live = k .live;
       place = rest-place tab tab′ n r ∙ k .place;

@@ -264,6 +264,7 @@ module _ (M S : ℕ) (z : Shape M S) (ds : List ℕ) (d : Listing S ds) (img tab
     keeps-now =
         record {
           act = same 2 (omega arith) ∙ wr .act;
+          drive = same 3 (omega arith) ∙ wr .drive;
           slot = hs;
           live = wr .live;
           place = tp-same tab tab′ n (λ i h. same′ i (omega arith)) ∙ wr .place;
