@@ -6,3 +6,4 @@ pub mod Addresses
 pub mod Chain
 pub mod Directory
 pub mod Frame
+pub mod Walk

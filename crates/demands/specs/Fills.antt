@@ -28,7 +28,8 @@ use Rattle.demands.specs.Ledger.{File, noFile, Block, closed, listing, r
 use Rattle.demands.specs.Relation.{tb, t2, tp, opens, writes, secsOf, Holds, Reading, Writing, Listed, Keeps, Agrees, t2-same, tp-same, Turn, step}
 use Rattle.demands.specs.Quiet.{turned, on-block, shut-block, alone1, alone2, nobody}
 use Rattle.demands.specs.Meets.{Meets, meets-pick}
-use Rattle.demands.specs.Sectors.{AllData, secs-data, secs-once, free-data, fits, sector-data, sector-index, last-data, last-none, length-pad, pad-at}
+use Rattle.chains.specs.Walk.{AllData}
+use Rattle.demands.specs.Sectors.{secs-data, secs-once, free-data, fits, sector-data, sector-index, last-data, last-none, length-pad, pad-at}
 use Rattle.demands.specs.Marks.{slot-low, slot-high, mark-step}
 
 pub one-is : (v : ℕ) → one v ≡ v ∷ []

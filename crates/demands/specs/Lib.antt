@@ -13,3 +13,4 @@ pub mod Opens
 pub mod Removes
 pub mod Lists
 pub mod Calls
+pub mod Tidy

@@ -29,7 +29,8 @@ use Rattle.demands.specs.Ledger.{File, noFile, Block, closed, Ledger, Re
 use Rattle.demands.specs.Relation.{tb, t2, tp, opens, writes, Holds, Keeps, Agrees, tp-same, Turn, step, long}
 use Rattle.demands.specs.Quiet.{turned, shut-writes, idle-kept}
 use Rattle.demands.specs.Meets.{request, Meets, meets-pick, meets-unless, meets-when}
-use Rattle.demands.specs.Sectors.{AllData, free-data, secs-data, secs-once, few, fits, sector-small, sector-data, last-data, index-last, last-small, linked-is}
+use Rattle.chains.specs.Walk.{AllData}
+use Rattle.demands.specs.Sectors.{free-data, secs-data, secs-once, few, fits, sector-small, sector-data, last-data, index-last, last-small, linked-is}
 use Rattle.demands.specs.Searches.{legal-part, find-is, in-use-is, lookedUp, Sat, seek-found, Named, named-hit, not-busy, not-open, part-part}
 use Rattle.demands.specs.Marks.{slot-low, slot-high, slot-in, slot-off, slot-at, slot-frame, slot-free, mark-holds, mark-step}
 use Rattle.demands.specs.Opens.{legal-live}

@@ -126,7 +126,7 @@ pub record Sat (cls : List ℕ → Seen) (fs : List File) (s : ℕ) : Type 0 whe
   pub low : s < length fs
   pub hit : cls ((getD fs s noFile) .name) ≡ Hit
 
-slot-same : (x y : ℕ) → slot x ≡ slot y → x ≡ y
+pub slot-same : (x y : ℕ) → slot x ≡ slot y → x ≡ y
 slot-same x y e = cc
 
 slot-not : (x : ℕ) → nowhere ≡ slot x → ⊥

@@ -20,15 +20,12 @@ use Rattle.chains.specs.Tally.{tally, tally-head, flat}
 use Rattle.chains.specs.Once.{Once, once-length}
 use Rattle.chains.specs.Addresses.{Shape, adr, adr-zero, adr-pos, adr-small, index-adr, data-adr}
 use Rattle.chains.specs.Chain.{first, lastOf, tally-last}
+use Rattle.chains.specs.Walk.{AllData}
 use Rattle.chains.specs.Directory.{Listing}
 use Rattle.demands.specs.Ledger.{File, noFile, Ledger, padTo}
 use Rattle.demands.specs.Relation.{secsOf, Agrees, all-le, all-low, all-high, slot-le}
 
 -- ---- lists of data sectors
-
--- all of a list are data sectors
-abbrev pub AllData : ℕ → ℕ → List ℕ → Type 0
-AllData M S l = (x : ℕ) → 1 ≤ tally x l → (S ≤ x) × (x < (M + 1) * S)
 
 module _ (M S : ℕ) (z : Shape M S) where
   -- one data sector

@@ -27,7 +27,8 @@ use Rattle.demands.specs.Ledger.{File, noFile, Block, closed, listing, r
 use Rattle.demands.specs.Relation.{tb, t2, tp, opens, writes, secsOf, Holds, Writing, Keeps, Agrees, t2-same, tp-same, Turn, step, long, all-high}
 use Rattle.demands.specs.Quiet.{turned, alone1, alone2, nobody}
 use Rattle.demands.specs.Meets.{Meets, meets-pick, meets-when}
-use Rattle.demands.specs.Sectors.{AllData, free-data, secs-data, secs-once, few, fits, sector-pos, sector-small, sector-index, sector-data, last-data, last-none, first-none, index-last, last-fit, first-small, last-small, linked-is}
+use Rattle.chains.specs.Walk.{AllData}
+use Rattle.demands.specs.Sectors.{free-data, secs-data, secs-once, few, fits, sector-pos, sector-small, sector-index, sector-data, last-data, last-none, first-none, index-last, last-fit, first-small, last-small, linked-is}
 use Rattle.demands.specs.Marks.{slot-low, slot-high, slot-in}
 use Rattle.demands.specs.Fills.{w, placed-is, buffer-is, write-in, full-step}
 
