@@ -14,3 +14,4 @@ pub mod Removes
 pub mod Lists
 pub mod Calls
 pub mod Tidy
+pub mod Changes

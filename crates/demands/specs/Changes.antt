@@ -1,0 +1,293 @@
+-- What an accepted call changes in the ledger; and what it leaves: other blocks, their files, files that no delete and no rename names.
+use mathlib.Core.Path.{_≡_, refl, sym, ap, ap₂, _∙_, subst}
+use mathlib.Core.Logic.{_≢_}
+use mathlib.Core.Bool.{Bool, true, false}
+use mathlib.Core.List.{List, [], _∷_, _++_}
+use Prim.Native.Nat.{ℕ, zero, suc, _+_, _-_, _*_, _/_, _%_, _≤_, _<_}
+use native.Mathlib.Omega.{arith}
+use native.Mathlib.Decide.{ℕ-discrete}
+use lib.ListN.{length, getD, set, length-set}
+use lib.Seq.{getD-set-same, getD-set-other, set-getD}
+use lib.Dec.{eqb, ltb}
+use borrow.Author.Tests.{eq-eqb, ne-eqb, eqb-true, eqb-false}
+use Rattle.rules.specs.Bytes.{pick, within, part}
+use Rattle.rules.specs.Image.{isSector}
+use Rattle.rules.specs.Names.{legal}
+use Rattle.rules.specs.Directory.{live, named, vacant, neverUsed, slotsOf}
+use Rattle.rules.specs.Files.{writeProtected, deleteProtected}
+use Rattle.rules.specs.Call.{served, fits}
+use Rattle.laws.specs.Tests.{pick-cases, pick-all}
+use Rattle.laws.specs.Bytes.{length-part}
+use Rattle.chains.specs.Addresses.{Shape, absurd-bool, within-true}
+use Rattle.chains.specs.Directory.{Listing}
+use Rattle.demands.specs.Ledger.{File, noFile, Block, closed, listing, reading, writing, Ledger, Request, Fate, denied, granted, after, Sought, nowhere, slot, onSought, seek, fileNamed, vacantSlot, busy, activity, block, file, attributes, onBlock, onFile, withLast, withNew, withMark, withName, newFile, padTo, taken, transferred, openedToRead, openedToWrite, shutBlock, rewound, shownNext, deleted, renamed, performed, fate}
+use Rattle.demands.specs.Relation.{opens, writes, Reading, Writing, Keeps, Agrees}
+use Rattle.demands.specs.Searches.{Sat, seek-found, Named, named-hit, vacant-hit, marked-dead}
+use Rattle.demands.specs.Opens.{legal-live}
+use Rattle.demands.specs.Tidy.{nameOf, Tidy, live-used, tidy-set, found-none, found-there, room-before}
+
+-- ---- the kinds of change
+
+pub data Change (a : Ledger) (n : ℕ) (q : Request) : Ledger → Type 0 where
+  -- nothing, or block n alone
+  still : Change a n q a
+  turned : (b : Block) → Change a n q (onBlock a n b)
+  -- the file that block n writes: its bytes, or it is dropped
+  worked : (s : ℕ) (ub fr : List ℕ) (f : File) (b : Block) → block a n ≡ writing s ub → f .name ≡ (file a s) .name → Change a n q (onFile a fr s f n b)
+  dropped : (s : ℕ) (ub : List ℕ) → block a n ≡ writing s ub → Change a n q (onFile a (a .free) s (withMark (file a s)) n closed)
+  -- a new file; one deleted by its name; one renamed by its name
+  made : (s : ℕ) → legal (q .name) 0 ≡ true → fileNamed (q .name) (a .slots) ≡ nowhere → vacantSlot (a .slots) ≡ slot s
+      → Change a n q (onFile a (a .free) s (newFile (q .name) (q .date)) n (writing s []))
+  gone : (s : ℕ) → q .code ≡ 12 → fileNamed (q .name) (a .slots) ≡ slot s → Change a n q (onFile a (a .free ++ (file a s) .secs) s (withMark (file a s)) n (block a n))
+  retitled : (s : ℕ) → q .code ≡ 13 → fileNamed (q .name) (a .slots) ≡ slot s → legal (q .rename) 0 ≡ true → fileNamed (q .rename) (a .slots) ≡ nowhere
+      → Change a n q (onFile a (a .free) s (withName (file a s) (q .rename)) n (block a n))
+
+abbrev pub Changes : Ledger → ℕ → Request → Fate → Type 0
+Changes a n q (denied e) = Unit {0}
+Changes a n q (granted b a′) = Change a n q a′
+
+low-code : (c : ℕ) → c ≤ 2 → c ≢ 0 → c ≢ 1 → c ≢ 2 → ⊥
+low-code c h a0 a1 a2 = omega arith
+
+mid-code : (c : ℕ) → 4 ≤ c → c ≤ 7 → c ≢ 4 → c ≢ 5 → c ≢ 6 → c ≢ 7 → ⊥
+mid-code c h k a4 a5 a6 a7 = omega arith
+
+high-code : (c : ℕ) → 12 ≤ c → c ≤ 13 → c ≢ 12 → c ≡ 13
+high-code c h k a12 = omega arith
+
+last-code : (c : ℕ) → served c ≡ true → c ≢ 0 → c ≢ 1 → c ≢ 2 → c ≢ 4 → c ≢ 5 → c ≢ 6 → c ≢ 7 → c ≢ 9 → c ≢ 12 → c ≡ 13
+unfolding served
+last-code c h a0 a1 a2 a4 a5 a6 a7 a9 a12 = go (within 0 2 c) refl (within 4 7 c) refl (eqb c 9) refl h
+  where
+    go : (u : Bool) → within 0 2 c ≡ u → (v : Bool) → within 4 7 c ≡ v → (w : Bool) → eqb c 9 ≡ w → pick u true (pick v true (pick w true (within 12 13 c))) ≡ true → c ≡ 13
+    go true e v f w g h = absurd (low-code c (within-true 0 2 c e .1) a0 a1 a2)
+    go false e true f w g h = let p = within-true 4 7 c f in absurd (mid-code c (p .0) (p .1) a4 a5 a6 a7)
+    go false e false f true g h = absurd (a9 (eqb-true c 9 g))
+    go false e false f false g h = let p = within-true 12 13 c h in high-code c (p .0) (p .1) a12
+
+module _ (M S : ℕ) (a : Ledger) (n : ℕ) (q : Request) where
+  abbrev C : Fate → Type 0
+  C = Changes a n q
+
+  change-taken : (s : ℕ) (ub x : List ℕ) → block a n ≡ writing s ub → C (taken M S a n q s x)
+  change-taken s ub [] e = tt
+  change-taken s ub (k ∷ fr) e = worked s ub fr _ _ e refl
+
+  change-transfer : (o : Block) → block a n ≡ o → C (transferred M S a n q o)
+  change-transfer closed e = tt
+  change-transfer (listing p) e = tt
+  change-transfer (reading s j i) e = pick-all C (eqb i 0) _ _ (pick-all C (ltb j (length ((file a s) .secs))) _ _ (turned _) tt) (turned _)
+  change-transfer (writing s ub) e =
+      pick-all C (eqb (length ub) 0) _ _ (change-taken s ub (a .free) e) (pick-all C (eqb (length ub) 251) _ _ (worked s ub (a .free) _ _ e refl) (turned _))
+
+  change-open-read : C (openedToRead M S a n q)
+  unfolding openedToRead
+  change-open-read = pick-all C (legal (q .name) 0) _ _ (go (fileNamed (q .name) (a .slots))) tt
+    where
+      go : (x : Sought) → C (onSought x (denied 4) (λ s. pick (busy false s (a .blocks) 8) (denied 2) (granted 0 (onBlock a n (reading s 0 0)))))
+      go nowhere = tt
+      go (slot s) = pick-all C (busy false s (a .blocks) 8) _ _ tt (turned _)
+
+  change-open-write : C (openedToWrite M S a n q)
+  unfolding openedToWrite
+  change-open-write = pick-cases C (legal (q .name) 0) _ _ (λ h. go h (fileNamed (q .name) (a .slots)) refl (vacantSlot (a .slots)) refl) (λ h. tt)
+    where
+      go : legal (q .name) 0 ≡ true → (x : Sought) → fileNamed (q .name) (a .slots) ≡ x → (y : Sought) → vacantSlot (a .slots) ≡ y
+          → C (onSought x (onSought y (denied 6) (λ s. granted 0 (onFile a (a .free) s (newFile (q .name) (q .date)) n (writing s [])))) (λ s. denied 3))
+      go h (slot s) e y f = tt
+      go h nowhere e nowhere f = tt
+      go h nowhere e (slot s) f = made s h e f
+
+  change-shut : (o : Block) → block a n ≡ o → C (shutBlock M S a n q o)
+  change-shut closed e = tt
+  change-shut (listing p) e = turned _
+  change-shut (reading s j i) e = turned _
+  change-shut (writing s ub) e =
+      pick-all C (eqb (length ((file a s) .secs)) 0) _ _ (dropped s ub e) (pick-all C (eqb (length ub) 0) _ _ (turned _) (worked s ub (a .free) _ _ e refl))
+
+  change-rewind : (o : Block) → C (rewound M S a n q o)
+  change-rewind closed = tt
+  change-rewind (listing p) = tt
+  change-rewind (reading s j i) = turned _
+  change-rewind (writing s ub) = tt
+
+  change-list : (o : Block) → C (shownNext M S a n q o)
+  change-list closed = tt
+  change-list (listing p) = pick-all C (ltb p (length (a .slots))) _ _ (turned _) tt
+  change-list (reading s j i) = tt
+  change-list (writing s ub) = tt
+
+  change-delete : q .code ≡ 12 → C (deleted M S a n q)
+  unfolding deleted
+  change-delete c = pick-all C (legal (q .name) 0) _ _ (go (fileNamed (q .name) (a .slots)) refl) tt
+    where
+      go : (x : Sought) → fileNamed (q .name) (a .slots) ≡ x
+          → C (onSought x (denied 4) (λ s. pick (busy true s (a .blocks) 8) (denied 2) (pick (deleteProtected (attributes a s)) (denied 12) (pick (writeProtected (attributes a s)) (denied 11)
+          (granted 0 (onFile a (a .free ++ (file a s) .secs) s (withMark (file a s)) n (block a n)))))))
+      go nowhere e = tt
+      go (slot s) e =
+          pick-all C (busy true s (a .blocks) 8) _ _ tt (pick-all C (deleteProtected (attributes a s)) _ _ tt (pick-all C (writeProtected (attributes a s)) _ _ tt (gone s c e)))
+
+  change-rename : q .code ≡ 13 → C (renamed M S a n q)
+  unfolding renamed
+  change-rename c =
+      pick-all C (legal (q .name) 0) _ _
+      (pick-cases C (legal (q .rename) 0) _ _ (λ h. go h (fileNamed (q .name) (a .slots)) refl (fileNamed (q .rename) (a .slots)) refl) (λ h. tt)) tt
+    where
+      go : legal (q .rename) 0 ≡ true → (x : Sought) → fileNamed (q .name) (a .slots) ≡ x → (y : Sought) → fileNamed (q .rename) (a .slots) ≡ y
+          → C (onSought x (denied 4) (λ s. pick (busy true s (a .blocks) 8) (denied 2) (pick (writeProtected (attributes a s)) (denied 11)
+          (onSought y (granted 0 (onFile a (a .free) s (withName (file a s) (q .rename)) n (block a n))) (λ t. denied 3)))))
+      go h nowhere e y f = tt
+      go h (slot s) e (slot t) f = pick-all C (busy true s (a .blocks) 8) _ _ tt (pick-all C (writeProtected (attributes a s)) _ _ tt tt)
+      go h (slot s) e nowhere f = pick-all C (busy true s (a .blocks) 8) _ _ tt (pick-all C (writeProtected (attributes a s)) _ _ tt (retitled s c e h f))
+
+  pub changes : C (fate M S a n q)
+  unfolding fate performed
+  changes =
+      let c = q .code in
+      pick-cases C (served c) _ _
+      (λ sv. pick-all C (eqb (q .drive) 0) _ _
+      (pick-all C (fits c (activity (block a n))) _ _
+      (pick-cases C (eqb c 0) _ _ (λ h. change-transfer (block a n) refl)
+      (λ n0. pick-cases C (eqb c 1) _ _ (λ h. change-open-read)
+      (λ n1. pick-cases C (eqb c 2) _ _ (λ h. change-open-write)
+      (λ n2. pick-cases C (eqb c 4) _ _ (λ h. change-shut (block a n) refl)
+      (λ n4. pick-cases C (eqb c 5) _ _ (λ h. change-rewind (block a n))
+      (λ n5. pick-cases C (eqb c 6) _ _ (λ h. turned _)
+      (λ n6. pick-cases C (eqb c 7) _ _ (λ h. change-list (block a n))
+      (λ n7. pick-cases C (eqb c 9) _ _ (λ h. pick-all C (isSector M S (q .position)) _ _ still tt)
+      (λ n9. pick-cases C (eqb c 12) _ _ (λ h. change-delete (eqb-true c 12 h))
+      (λ n12. change-rename (last-code c sv (eqb-false c 0 n0) (eqb-false c 1 n1) (eqb-false c 2 n2) (eqb-false c 4 n4) (eqb-false c 5 n5) (eqb-false c 6 n6) (eqb-false c 7 n7) (eqb-false c 9 n9) (eqb-false c 12 n12))))))))))))
+      tt)
+      tt)
+      (λ sv. tt)
+
+-- ---- what is left as it was
+
+-- block m, where n is another
+pub other-block : (a a′ : Ledger) (n : ℕ) (q : Request) → Change a n q a′ → (m : ℕ) → m ≢ n → block a′ m ≡ block a m
+other-block a a′ n q still m e = refl
+other-block a a′ n q (turned b) m e = getD-set-other (a .blocks) n m b closed e
+other-block a a′ n q (worked s ub fr f b x y) m e = getD-set-other (a .blocks) n m b closed e
+other-block a a′ n q (dropped s ub x) m e = getD-set-other (a .blocks) n m closed closed e
+other-block a a′ n q (made s x y w) m e = getD-set-other (a .blocks) n m (writing s []) closed e
+other-block a a′ n q (gone s x y) m e = getD-set-other (a .blocks) n m (block a n) closed e
+other-block a a′ n q (retitled s x y w v) m e = getD-set-other (a .blocks) n m (block a n) closed e
+
+-- slot s: kept, or the file that n writes, or the new one, or the one that is deleted or renamed by its name
+pub data Slot (a a′ : Ledger) (n : ℕ) (q : Request) (s : ℕ) : Type 0 where
+  kept : file a′ s ≡ file a s → Slot a a′ n q s
+  own : (ub : List ℕ) → block a n ≡ writing s ub → Slot a a′ n q s
+  fresh : vacantSlot (a .slots) ≡ slot s → Slot a a′ n q s
+  lost : q .code ≡ 12 → fileNamed (q .name) (a .slots) ≡ slot s → (s < length (a .slots) → file a′ s ≡ withMark (file a s)) → Slot a a′ n q s
+  moved : q .code ≡ 13 → fileNamed (q .name) (a .slots) ≡ slot s → (s < length (a .slots) → file a′ s ≡ withName (file a s) (q .rename)) → Slot a a′ n q s
+
+pub slot-fate : (a a′ : Ledger) (n : ℕ) (q : Request) → Change a n q a′ → (s : ℕ) → Slot a a′ n q s
+slot-fate a a′ n q still s = kept refl
+slot-fate a a′ n q (turned b) s = kept refl
+slot-fate a a′ n q (worked t ub fr f b x y) s = go (ℕ-discrete s t)
+  where
+    go : Dec (s ≡ t) → Slot a (onFile a fr t f n b) n q s
+    go (yes e) = own ub (x ∙ ap (λ (k : ℕ). writing k ub) (sym e))
+    go (no e) = kept (getD-set-other (a .slots) t s f noFile e)
+slot-fate a a′ n q (dropped t ub x) s = go (ℕ-discrete s t)
+  where
+    go : Dec (s ≡ t) → Slot a (onFile a (a .free) t (withMark (file a t)) n closed) n q s
+    go (yes e) = own ub (x ∙ ap (λ (k : ℕ). writing k ub) (sym e))
+    go (no e) = kept (getD-set-other (a .slots) t s (withMark (file a t)) noFile e)
+slot-fate a a′ n q (made t x y w) s = go (ℕ-discrete s t)
+  where
+    go : Dec (s ≡ t) → Slot a (onFile a (a .free) t (newFile (q .name) (q .date)) n (writing t [])) n q s
+    go (yes e) = fresh (w ∙ ap slot (sym e))
+    go (no e) = kept (getD-set-other (a .slots) t s (newFile (q .name) (q .date)) noFile e)
+slot-fate a a′ n q (gone t x y) s = go (ℕ-discrete s t)
+  where
+    go : Dec (s ≡ t) → Slot a (onFile a (a .free ++ (file a t) .secs) t (withMark (file a t)) n (block a n)) n q s
+    go (yes e) =
+        lost x (y ∙ ap slot (sym e))
+        (λ h. subst (λ (k : ℕ). getD (set (a .slots) k (withMark (file a k))) s noFile ≡ withMark (file a s)) e (getD-set-same (a .slots) s (withMark (file a s)) noFile h))
+    go (no e) = kept (getD-set-other (a .slots) t s (withMark (file a t)) noFile e)
+slot-fate a a′ n q (retitled t x y w v) s = go (ℕ-discrete s t)
+  where
+    go : Dec (s ≡ t) → Slot a (onFile a (a .free) t (withName (file a t) (q .rename)) n (block a n)) n q s
+    go (yes e) =
+        moved x (y ∙ ap slot (sym e))
+        (λ h. subst (λ (k : ℕ). getD (set (a .slots) k (withName (file a k) (q .rename))) s noFile ≡ withName (file a s) (q .rename)) e
+        (getD-set-same (a .slots) s (withName (file a s) (q .rename)) noFile h))
+    go (no e) = kept (getD-set-other (a .slots) t s (withName (file a t) (q .rename)) noFile e)
+
+-- a live slot is not the one that an open for write takes
+pub live-not-room : (fs : List File) (s : ℕ) → live (nameOf fs s) 0 ≡ true → vacantSlot fs ≡ slot s → ⊥
+live-not-room fs s l e =
+    absurd-bool l (vacant-hit (nameOf fs s) (seek-found (λ x. vacant x 0) fs s e .hit))
+
+-- ---- 43 stays away
+
+marked-used : (x : List ℕ) → 1 ≤ length x → neverUsed (set x 0 255) 0 ≡ false
+unfolding neverUsed
+marked-used [] h = absurd (omega arith)
+marked-used (v ∷ x) h = refl
+
+module _ (a : Ledger) (t : Tidy (a .slots)) where
+  -- of the same name
+  same-name : (s : ℕ) (f : File) → s < length (a .slots) → live (f .name) 0 ≡ true → f .name ≡ nameOf (a .slots) s → Tidy (set (a .slots) s f)
+  same-name s f hs l e =
+      let e1 : nameOf (a .slots) s ≡ f .name = sym e in
+      tidy-set (a .slots) t s f hs (ap length e ∙ t .long s hs) (live-used (f .name) l)
+      (λ v i b. not-unused i s b hs (ap (λ (x : List ℕ). live x 0) (sym e) ∙ v))
+      (λ v j ne b w p. t .apart j s ne b hs w (ap (λ (x : List ℕ). live x 0) (sym e) ∙ v) (p ∙ e))
+    where
+      not-unused : (i j : ℕ) → i < j → j < length (a .slots) → live (nameOf (a .slots) j) 0 ≡ true → neverUsed (nameOf (a .slots) i) 0 ≡ false
+      not-unused i j b c v = go (neverUsed (nameOf (a .slots) i) 0) refl
+        where
+          go : (u : Bool) → neverUsed (nameOf (a .slots) i) 0 ≡ u → u ≡ false
+          go false e = refl
+          go true e = absurd-bool v (t .solid i j b c e)
+
+  marked : (s : ℕ) → s < length (a .slots) → Tidy (set (a .slots) s (withMark (file a s)))
+  marked s hs =
+      let l = t .long s hs in
+      let dead = marked-dead (nameOf (a .slots) s) (omega (arith, l)) in
+      tidy-set (a .slots) t s (withMark (file a s)) hs (length-set (nameOf (a .slots) s) 0 255 ∙ l) (marked-used (nameOf (a .slots) s) (omega (arith, l)))
+      (λ v. absurd-bool v dead) (λ v. absurd-bool v dead)
+
+  pub tidy-change : (a′ : Ledger) (n : ℕ) (q : Request) → length (q .name) ≡ 11 → length (q .rename) ≡ 11
+      → ((s : ℕ) (ub : List ℕ) → block a n ≡ writing s ub → (s < length (a .slots)) × (live (nameOf (a .slots) s) 0 ≡ true))
+      → Change a n q a′ → Tidy (a′ .slots)
+  tidy-change a′ n q ln lr ow still = t
+  tidy-change a′ n q ln lr ow (turned b) = t
+  tidy-change a′ n q ln lr ow (worked s ub fr f b x y) = let o = ow s ub x in same-name s f (o .0) (ap (λ (x : List ℕ). live x 0) y ∙ o .1) y
+  tidy-change a′ n q ln lr ow (dropped s ub x) = marked s (ow s ub x .0)
+  tidy-change a′ n q ln lr ow (made s x y w) =
+      let l = legal-live (q .name) x in
+      tidy-set (a .slots) t s (newFile (q .name) (q .date)) (seek-found (λ x. vacant x 0) (a .slots) s w .low) ln (live-used (q .name) l)
+      (λ v i b. live-used (nameOf (a .slots) i) (room-before (a .slots) s w i b))
+      (λ v j ne b u. found-none (q .name) (a .slots) t y j b u)
+  tidy-change a′ n q ln lr ow (gone s x y) = marked s (seek-found (λ x. Rattle.rules.specs.Directory.named x (q .name) 0) (a .slots) s y .low)
+  tidy-change a′ n q ln lr ow (retitled s x y w v) =
+      let l = legal-live (q .rename) w in
+      let p = seek-found (λ x. Rattle.rules.specs.Directory.named x (q .name) 0) (a .slots) s y in
+      let hit = named-hit (nameOf (a .slots) s) (q .name) (p .hit) in
+      tidy-set (a .slots) t s (withName (file a s) (q .rename)) (p .low) lr (live-used (q .rename) l)
+      (λ u i b. go i (p .low) b (hit .live) (neverUsed (nameOf (a .slots) i) 0) refl)
+      (λ u j ne b k. found-none (q .rename) (a .slots) t v j b k)
+    where
+      go : (i : ℕ) → s < length (a .slots) → i < s → live (nameOf (a .slots) s) 0 ≡ true → (u : Bool) → neverUsed (nameOf (a .slots) i) 0 ≡ u → u ≡ false
+      go i hs b l false e = refl
+      go i hs b l true e = absurd-bool l (t .solid i s b hs e)
+
+-- ---- of a ledger that image and table agree with
+
+module _ (M S : ℕ) (ds img tab : List ℕ) (a : Ledger) (r : Agrees M S ds img tab a) where
+  -- an open slot is live
+  pub open-live : (m s : ℕ) → m < 8 → opens (block a m) ≡ suc s → (live (nameOf (a .slots) s) 0 ≡ true) × (s < length (a .slots))
+  open-live m s hm e = go (block a m) (r .keeps m hm) e
+    where
+      go : (b : Block) → Keeps S (slotsOf ds) tab m (a .slots) b → opens b ≡ suc s → (live (nameOf (a .slots) s) 0 ≡ true) × (s < length (a .slots))
+      go closed k e = absurd (omega arith)
+      go (listing p) k e = absurd (omega arith)
+      go (reading t j i) k e = let q : t ≡ s = omega arith in (subst (λ (x : ℕ). live (nameOf (a .slots) x) 0 ≡ true) q (k .live), omega (arith, q, k .slot, r .ns))
+      go (writing t ub) k e = let q : t ≡ s = omega arith in (subst (λ (x : ℕ). live (nameOf (a .slots) x) 0 ≡ true) q (k .live), omega (arith, q, k .slot, r .ns))
+
+  pub own-live : (n : ℕ) → n < 8 → (s : ℕ) (ub : List ℕ) → block a n ≡ writing s ub → (s < length (a .slots)) × (live (nameOf (a .slots) s) 0 ≡ true)
+  own-live n hn s ub e = let p = open-live n s hn (ap opens e) in (p .1, p .0)
