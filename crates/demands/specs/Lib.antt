@@ -15,3 +15,4 @@ pub mod Lists
 pub mod Calls
 pub mod Tidy
 pub mod Changes
+pub mod Survey

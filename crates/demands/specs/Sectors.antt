@@ -77,11 +77,24 @@ module _ (M S : ℕ) (z : Shape M S) where
   last-small [] g = omega (arith, adr-zero S)
   last-small (x ∷ l) g = sector-small (lastOf (x ∷ l) 0) (last-data (x ∷ l) g (omega arith))
 
+length-flat : (ls : List File) (n : ℕ) → n < length ls → length (secsOf (getD ls n noFile)) ≤ length (flat secsOf ls)
+length-flat [] n h = absurd (omega arith)
+length-flat (f ∷ ls) zero h = omega (arith, length-append (secsOf f) (flat secsOf ls))
+length-flat (f ∷ ls) (suc n) h = omega (arith, length-append (secsOf f) (flat secsOf ls), length-flat ls n (omega arith))
+
 -- ---- of slot s
 
 module _ (M S : ℕ) (z : Shape M S) (ds : List ℕ) (d : Listing S ds) (img tab : List ℕ) (a : Ledger) (r : Agrees M S ds img tab a) where
   pub free-data : AllData M S (a .free)
   free-data x t = (all-low M S z ds d img tab a r x (omega arith), all-high M S z ds d img tab a r x (omega arith))
+
+  all-count : length (a .free) + length (flat secsOf (a .slots)) ≡ M * S
+  all-count =
+      sym (length-append (a .free) (flat secsOf (a .slots)))
+      ∙ once-length S (M * S) (a .free ++ flat secsOf (a .slots)) (subst (λ (y : ℕ). Once S y (a .free ++ flat secsOf (a .slots))) (omega arith) (r .once))
+
+  pub free-count : length (a .free) ≤ M * S
+  free-count = omega (arith, all-count)
 
   module _ (s : ℕ) (hs : s < length (slotsOf ds)) where
     abbrev secs : List ℕ
@@ -94,17 +107,15 @@ module _ (M S : ℕ) (z : Shape M S) (ds : List ℕ) (d : Listing S ds) (img tab
     pub secs-once : (x : ℕ) → tally x (a .free) + tally x secs ≤ 1
     secs-once x = omega (arith, all-le M S z ds d img tab a r x, slot-le M S z ds d img tab a r s x hs)
 
-    length-flat : (ls : List File) (n : ℕ) → n < length ls → length (secsOf (getD ls n noFile)) ≤ length (flat secsOf ls)
-    length-flat [] n h = absurd (omega arith)
-    length-flat (f ∷ ls) zero h = omega (arith, length-append (secsOf f) (flat secsOf ls))
-    length-flat (f ∷ ls) (suc n) h = omega (arith, length-append (secsOf f) (flat secsOf ls), length-flat ls n (omega arith))
-
     -- all chains together are short
+    both-count : length (a .free) + length secs ≤ M * S
+    both-count = omega (arith, all-count, length-flat (a .slots) s (omega (arith, r .ns)))
+
+    pub secs-count : length secs ≤ M * S
+    secs-count = omega (arith, both-count)
+
     pub few : length (a .free) + length secs ≤ 2844
-    few =
-        let all = once-length S (M * S) (a .free ++ flat secsOf (a .slots)) (subst (λ (y : ℕ). Once S y (a .free ++ flat secsOf (a .slots))) (omega arith) (r .once)) in
-        let m : M * S ≤ 79 * 36 = mul-le-mul (z .m2) (z .s2) in
-        omega (arith, all, m, length-append (a .free) (flat secsOf (a .slots)), length-flat (a .slots) s (omega (arith, r .ns)))
+    few = let m : M * S ≤ 79 * 36 = mul-le-mul (z .m2) (z .s2) in omega (arith, both-count, m)
 
   pub fits : (x : ℕ) → x < (M + 1) * S → 256 * x + 256 ≤ length img
   fits x h = omega (arith, r .shaped .size)
