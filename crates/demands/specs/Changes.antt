@@ -28,12 +28,16 @@ use Rattle.demands.specs.Tidy.{nameOf, Tidy, live-used, tidy-set, found-
 
 -- ---- the kinds of change
 
+-- block n as b writes nothing that it did not write before
+abbrev pub Steady : Ledger → ℕ → Block → Type 0
+Steady a n b = (t : ℕ) → writes b ≡ suc t → writes (block a n) ≡ suc t
+
 pub data Change (a : Ledger) (n : ℕ) (q : Request) : Ledger → Type 0 where
   -- nothing, or block n alone
   still : Change a n q a
-  turned : (b : Block) → Change a n q (onBlock a n b)
+  turned : (b : Block) → Steady a n b → Change a n q (onBlock a n b)
   -- the file that block n writes: its bytes, or it is dropped
-  worked : (s : ℕ) (ub fr : List ℕ) (f : File) (b : Block) → block a n ≡ writing s ub → f .name ≡ (file a s) .name → Change a n q (onFile a fr s f n b)
+  worked : (s : ℕ) (ub fr : List ℕ) (f : File) (b : Block) → block a n ≡ writing s ub → f .name ≡ (file a s) .name → Steady a n b → Change a n q (onFile a fr s f n b)
   dropped : (s : ℕ) (ub : List ℕ) → block a n ≡ writing s ub → Change a n q (onFile a (a .free) s (withMark (file a s)) n closed)
   -- a new file; one deleted by its name; one renamed by its name
   made : (s : ℕ) → legal (q .name) 0 ≡ true → fileNamed (q .name) (a .slots) ≡ nowhere → vacantSlot (a .slots) ≡ slot s
@@ -71,14 +75,14 @@ module _ (M S : ℕ) (a : Ledger) (n : ℕ) (q : Request) where
 
   change-taken : (s : ℕ) (ub x : List ℕ) → block a n ≡ writing s ub → C (taken M S a n q s x)
   change-taken s ub [] e = tt
-  change-taken s ub (k ∷ fr) e = worked s ub fr _ _ e refl
+  change-taken s ub (k ∷ fr) e = worked s ub fr _ _ e refl (λ t h. ap writes e ∙ h)
 
   change-transfer : (o : Block) → block a n ≡ o → C (transferred M S a n q o)
   change-transfer closed e = tt
   change-transfer (listing p) e = tt
-  change-transfer (reading s j i) e = pick-all C (eqb i 0) _ _ (pick-all C (ltb j (length ((file a s) .secs))) _ _ (turned _) tt) (turned _)
+  change-transfer (reading s j i) e = pick-all C (eqb i 0) _ _ (pick-all C (ltb j (length ((file a s) .secs))) _ _ (turned _ (λ t h. absurd (omega arith))) tt) (turned _ (λ t h. absurd (omega arith)))
   change-transfer (writing s ub) e =
-      pick-all C (eqb (length ub) 0) _ _ (change-taken s ub (a .free) e) (pick-all C (eqb (length ub) 251) _ _ (worked s ub (a .free) _ _ e refl) (turned _))
+      pick-all C (eqb (length ub) 0) _ _ (change-taken s ub (a .free) e) (pick-all C (eqb (length ub) 251) _ _ (worked s ub (a .free) _ _ e refl (λ t h. ap writes e ∙ h)) (turned _ (λ t h. ap writes e ∙ h)))
 
   change-open-read : C (openedToRead M S a n q)
   unfolding openedToRead
@@ -86,7 +90,7 @@ module _ (M S : ℕ) (a : Ledger) (n : ℕ) (q : Request) where
     where
       go : (x : Sought) → C (onSought x (denied 4) (λ s. pick (busy false s (a .blocks) 8) (denied 2) (granted 0 (onBlock a n (reading s 0 0)))))
       go nowhere = tt
-      go (slot s) = pick-all C (busy false s (a .blocks) 8) _ _ tt (turned _)
+      go (slot s) = pick-all C (busy false s (a .blocks) 8) _ _ tt (turned _ (λ t h. absurd (omega arith)))
 
   change-open-write : C (openedToWrite M S a n q)
   unfolding openedToWrite
@@ -100,20 +104,20 @@ module _ (M S : ℕ) (a : Ledger) (n : ℕ) (q : Request) where
 
   change-shut : (o : Block) → block a n ≡ o → C (shutBlock M S a n q o)
   change-shut closed e = tt
-  change-shut (listing p) e = turned _
-  change-shut (reading s j i) e = turned _
+  change-shut (listing p) e = turned closed (λ t h. absurd (omega arith))
+  change-shut (reading s j i) e = turned closed (λ t h. absurd (omega arith))
   change-shut (writing s ub) e =
-      pick-all C (eqb (length ((file a s) .secs)) 0) _ _ (dropped s ub e) (pick-all C (eqb (length ub) 0) _ _ (turned _) (worked s ub (a .free) _ _ e refl))
+      pick-all C (eqb (length ((file a s) .secs)) 0) _ _ (dropped s ub e) (pick-all C (eqb (length ub) 0) _ _ (turned closed (λ t h. absurd (omega arith))) (worked s ub (a .free) _ closed e refl (λ t h. absurd (omega arith))))
 
   change-rewind : (o : Block) → C (rewound M S a n q o)
   change-rewind closed = tt
   change-rewind (listing p) = tt
-  change-rewind (reading s j i) = turned _
+  change-rewind (reading s j i) = turned (reading s 0 0) (λ t h. absurd (omega arith))
   change-rewind (writing s ub) = tt
 
   change-list : (o : Block) → C (shownNext M S a n q o)
   change-list closed = tt
-  change-list (listing p) = pick-all C (ltb p (length (a .slots))) _ _ (turned _) tt
+  change-list (listing p) = pick-all C (ltb p (length (a .slots))) _ _ (turned _ (λ t h. absurd (omega arith))) tt
   change-list (reading s j i) = tt
   change-list (writing s ub) = tt
 
@@ -153,7 +157,7 @@ module _ (M S : ℕ) (a : Ledger) (n : ℕ) (q : Request) where
       (λ n1. pick-cases C (eqb c 2) _ _ (λ h. change-open-write)
       (λ n2. pick-cases C (eqb c 4) _ _ (λ h. change-shut (block a n) refl)
       (λ n4. pick-cases C (eqb c 5) _ _ (λ h. change-rewind (block a n))
-      (λ n5. pick-cases C (eqb c 6) _ _ (λ h. turned _)
+      (λ n5. pick-cases C (eqb c 6) _ _ (λ h. turned (listing 0) (λ t h. absurd (omega arith)))
       (λ n6. pick-cases C (eqb c 7) _ _ (λ h. change-list (block a n))
       (λ n7. pick-cases C (eqb c 9) _ _ (λ h. pick-all C (isSector M S (q .position)) _ _ still tt)
       (λ n9. pick-cases C (eqb c 12) _ _ (λ h. change-delete (eqb-true c 12 h))
@@ -167,8 +171,8 @@ module _ (M S : ℕ) (a : Ledger) (n : ℕ) (q : Request) where
 -- block m, where n is another
 pub other-block : (a a′ : Ledger) (n : ℕ) (q : Request) → Change a n q a′ → (m : ℕ) → m ≢ n → block a′ m ≡ block a m
 other-block a a′ n q still m e = refl
-other-block a a′ n q (turned b) m e = getD-set-other (a .blocks) n m b closed e
-other-block a a′ n q (worked s ub fr f b x y) m e = getD-set-other (a .blocks) n m b closed e
+other-block a a′ n q (turned b st) m e = getD-set-other (a .blocks) n m b closed e
+other-block a a′ n q (worked s ub fr f b x y st) m e = getD-set-other (a .blocks) n m b closed e
 other-block a a′ n q (dropped s ub x) m e = getD-set-other (a .blocks) n m closed closed e
 other-block a a′ n q (made s x y w) m e = getD-set-other (a .blocks) n m (writing s []) closed e
 other-block a a′ n q (gone s x y) m e = getD-set-other (a .blocks) n m (block a n) closed e
@@ -184,8 +188,8 @@ pub data Slot (a a′ : Ledger) (n : ℕ) (q : Request) (s : ℕ) : Type 0 where
 
 pub slot-fate : (a a′ : Ledger) (n : ℕ) (q : Request) → Change a n q a′ → (s : ℕ) → Slot a a′ n q s
 slot-fate a a′ n q still s = kept refl
-slot-fate a a′ n q (turned b) s = kept refl
-slot-fate a a′ n q (worked t ub fr f b x y) s = go (ℕ-discrete s t)
+slot-fate a a′ n q (turned b st) s = kept refl
+slot-fate a a′ n q (worked t ub fr f b x y st) s = go (ℕ-discrete s t)
   where
     go : Dec (s ≡ t) → Slot a (onFile a fr t f n b) n q s
     go (yes e) = own ub (x ∙ ap (λ (k : ℕ). writing k ub) (sym e))
@@ -215,6 +219,26 @@ slot-fate a a′ n q (retitled t x y w v) s = go (ℕ-discrete s t)
         (λ h. subst (λ (k : ℕ). getD (set (a .slots) k (withName (file a k) (q .rename))) s noFile ≡ withName (file a s) (q .rename)) e
         (getD-set-same (a .slots) s (withName (file a s) (q .rename)) noFile h))
     go (no e) = kept (getD-set-other (a .slots) t s (withName (file a t) (q .rename)) noFile e)
+
+-- who writes a slot afterwards wrote it before, or has just made it
+pub writes-before : (a a′ : Ledger) (n : ℕ) (q : Request) → n < length (a .blocks) → Change a n q a′ → (m s : ℕ) → writes (block a′ m) ≡ suc s → vacantSlot (a .slots) ≢ slot s → writes (block a m) ≡ suc s
+writes-before a a′ n q hn c m s w v = go (ℕ-discrete m n)
+  where
+    here : (b : Block) → writes (getD (set (a .blocks) n b) m closed) ≡ suc s → m ≡ n → writes b ≡ suc s
+    here b w d = ap writes (sym (ap (λ (k : ℕ). getD (set (a .blocks) n b) k closed) d ∙ getD-set-same (a .blocks) n b closed hn)) ∙ w
+
+    now : (a′ : Ledger) → Change a n q a′ → writes (block a′ m) ≡ suc s → m ≡ n → writes (block a m) ≡ suc s
+    now a′ still w d = w
+    now a′ (turned b st) w d = ap (λ (k : ℕ). writes (block a k)) d ∙ st s (here b w d)
+    now a′ (worked t ub fr f b x y st) w d = ap (λ (k : ℕ). writes (block a k)) d ∙ st s (here b w d)
+    now a′ (dropped t ub x) w d = absurd (omega (arith, here closed w d))
+    now a′ (made t x y z) w d = let e : t ≡ s = omega (arith, here (writing t []) w d) in absurd (v (z ∙ ap slot e))
+    now a′ (gone t x y) w d = ap (λ (k : ℕ). writes (block a k)) d ∙ here (block a n) w d
+    now a′ (retitled t x y z u) w d = ap (λ (k : ℕ). writes (block a k)) d ∙ here (block a n) w d
+
+    go : Dec (m ≡ n) → writes (block a m) ≡ suc s
+    go (yes d) = now a′ c w d
+    go (no d) = ap writes (sym (other-block a a′ n q c m d)) ∙ w
 
 -- a live slot is not the one that an open for write takes
 pub live-not-room : (fs : List File) (s : ℕ) → live (nameOf fs s) 0 ≡ true → vacantSlot fs ≡ slot s → ⊥
@@ -255,8 +279,8 @@ module _ (a : Ledger) (t : Tidy (a .slots)) where
       → ((s : ℕ) (ub : List ℕ) → block a n ≡ writing s ub → (s < length (a .slots)) × (live (nameOf (a .slots) s) 0 ≡ true))
       → Change a n q a′ → Tidy (a′ .slots)
   tidy-change a′ n q ln lr ow still = t
-  tidy-change a′ n q ln lr ow (turned b) = t
-  tidy-change a′ n q ln lr ow (worked s ub fr f b x y) = let o = ow s ub x in same-name s f (o .0) (ap (λ (x : List ℕ). live x 0) y ∙ o .1) y
+  tidy-change a′ n q ln lr ow (turned b st) = t
+  tidy-change a′ n q ln lr ow (worked s ub fr f b x y st) = let o = ow s ub x in same-name s f (o .0) (ap (λ (x : List ℕ). live x 0) y ∙ o .1) y
   tidy-change a′ n q ln lr ow (dropped s ub x) = marked s (ow s ub x .0)
   tidy-change a′ n q ln lr ow (made s x y w) =
       let l = legal-live (q .name) x in
