@@ -16,3 +16,7 @@ pub mod Calls
 pub mod Tidy
 pub mod Changes
 pub mod Survey
+pub mod Service
+pub mod History
+pub mod Demands
+pub mod Runs
