@@ -22,7 +22,7 @@ use Rattle.chains.specs.Addresses.{Shape, absurd-bool, within-true}
 use Rattle.chains.specs.Directory.{Listing}
 use Rattle.demands.specs.Ledger.{File, noFile, Block, closed, listing, reading, writing, Ledger, Request, Fate, denied, granted, after, Sought, nowhere, slot, onSought, seek, fileNamed, vacantSlot, busy, activity, block, file, attributes, onBlock, onFile, withLast, withNew, withMark, withName, newFile, padTo, taken, transferred, openedToRead, openedToWrite, shutBlock, rewound, shownNext, deleted, renamed, performed, fate}
 use Rattle.demands.specs.Relation.{opens, writes, Reading, Writing, Keeps, Agrees}
-use Rattle.demands.specs.Searches.{Sat, seek-found, Named, named-hit, vacant-hit, marked-dead}
+use Rattle.demands.specs.Searches.{Sat, slot-same, seek-found, Named, named-hit, vacant-hit, marked-dead}
 use Rattle.demands.specs.Opens.{legal-live}
 use Rattle.demands.specs.Tidy.{nameOf, Tidy, live-used, tidy-set, found-none, found-there, room-before}
 
@@ -34,13 +34,13 @@ Steady a n b = (t : ℕ) → writes b ≡ suc t → writes (block a n) ≡ suc t
 
 pub data Change (a : Ledger) (n : ℕ) (q : Request) : Ledger → Type 0 where
   -- nothing, or block n alone
-  still : Change a n q a
-  turned : (b : Block) → Steady a n b → Change a n q (onBlock a n b)
+  still : q .code ≢ 13 → Change a n q a
+  turned : q .code ≢ 13 → (b : Block) → Steady a n b → Change a n q (onBlock a n b)
   -- the file that block n writes: its bytes, or it is dropped
-  worked : (s : ℕ) (ub fr : List ℕ) (f : File) (b : Block) → block a n ≡ writing s ub → f .name ≡ (file a s) .name → Steady a n b → Change a n q (onFile a fr s f n b)
-  dropped : (s : ℕ) (ub : List ℕ) → block a n ≡ writing s ub → Change a n q (onFile a (a .free) s (withMark (file a s)) n closed)
+  worked : q .code ≢ 13 → (s : ℕ) (ub fr : List ℕ) (f : File) (b : Block) → block a n ≡ writing s ub → f .name ≡ (file a s) .name → Steady a n b → Change a n q (onFile a fr s f n b)
+  dropped : q .code ≢ 13 → (s : ℕ) (ub : List ℕ) → block a n ≡ writing s ub → Change a n q (onFile a (a .free) s (withMark (file a s)) n closed)
   -- a new file; one deleted by its name; one renamed by its name
-  made : (s : ℕ) → legal (q .name) 0 ≡ true → fileNamed (q .name) (a .slots) ≡ nowhere → vacantSlot (a .slots) ≡ slot s
+  made : q .code ≢ 13 → (s : ℕ) → legal (q .name) 0 ≡ true → fileNamed (q .name) (a .slots) ≡ nowhere → vacantSlot (a .slots) ≡ slot s
       → Change a n q (onFile a (a .free) s (newFile (q .name) (q .date)) n (writing s []))
   gone : (s : ℕ) → q .code ≡ 12 → fileNamed (q .name) (a .slots) ≡ slot s → Change a n q (onFile a (a .free ++ (file a s) .secs) s (withMark (file a s)) n (block a n))
   retitled : (s : ℕ) → q .code ≡ 13 → fileNamed (q .name) (a .slots) ≡ slot s → legal (q .rename) 0 ≡ true → fileNamed (q .rename) (a .slots) ≡ nowhere
@@ -73,53 +73,53 @@ module _ (M S : ℕ) (a : Ledger) (n : ℕ) (q : Request) where
   abbrev C : Fate → Type 0
   C = Changes a n q
 
-  change-taken : (s : ℕ) (ub x : List ℕ) → block a n ≡ writing s ub → C (taken M S a n q s x)
-  change-taken s ub [] e = tt
-  change-taken s ub (k ∷ fr) e = worked s ub fr _ _ e refl (λ t h. ap writes e ∙ h)
+  change-taken : q .code ≢ 13 → (s : ℕ) (ub x : List ℕ) → block a n ≡ writing s ub → C (taken M S a n q s x)
+  change-taken ne s ub [] e = tt
+  change-taken ne s ub (k ∷ fr) e = worked ne s ub fr _ _ e refl (λ t h. ap writes e ∙ h)
 
-  change-transfer : (o : Block) → block a n ≡ o → C (transferred M S a n q o)
-  change-transfer closed e = tt
-  change-transfer (listing p) e = tt
-  change-transfer (reading s j i) e = pick-all C (eqb i 0) _ _ (pick-all C (ltb j (length ((file a s) .secs))) _ _ (turned _ (λ t h. absurd (omega arith))) tt) (turned _ (λ t h. absurd (omega arith)))
-  change-transfer (writing s ub) e =
-      pick-all C (eqb (length ub) 0) _ _ (change-taken s ub (a .free) e) (pick-all C (eqb (length ub) 251) _ _ (worked s ub (a .free) _ _ e refl (λ t h. ap writes e ∙ h)) (turned _ (λ t h. ap writes e ∙ h)))
+  change-transfer : q .code ≢ 13 → (o : Block) → block a n ≡ o → C (transferred M S a n q o)
+  change-transfer ne closed e = tt
+  change-transfer ne (listing p) e = tt
+  change-transfer ne (reading s j i) e = pick-all C (eqb i 0) _ _ (pick-all C (ltb j (length ((file a s) .secs))) _ _ (turned ne _ (λ t h. absurd (omega arith))) tt) (turned ne _ (λ t h. absurd (omega arith)))
+  change-transfer ne (writing s ub) e =
+      pick-all C (eqb (length ub) 0) _ _ (change-taken ne s ub (a .free) e) (pick-all C (eqb (length ub) 251) _ _ (worked ne s ub (a .free) _ _ e refl (λ t h. ap writes e ∙ h)) (turned ne _ (λ t h. ap writes e ∙ h)))
 
-  change-open-read : C (openedToRead M S a n q)
+  change-open-read : q .code ≢ 13 → C (openedToRead M S a n q)
   unfolding openedToRead
-  change-open-read = pick-all C (legal (q .name) 0) _ _ (go (fileNamed (q .name) (a .slots))) tt
+  change-open-read ne = pick-all C (legal (q .name) 0) _ _ (go (fileNamed (q .name) (a .slots))) tt
     where
       go : (x : Sought) → C (onSought x (denied 4) (λ s. pick (busy false s (a .blocks) 8) (denied 2) (granted 0 (onBlock a n (reading s 0 0)))))
       go nowhere = tt
-      go (slot s) = pick-all C (busy false s (a .blocks) 8) _ _ tt (turned _ (λ t h. absurd (omega arith)))
+      go (slot s) = pick-all C (busy false s (a .blocks) 8) _ _ tt (turned ne _ (λ t h. absurd (omega arith)))
 
-  change-open-write : C (openedToWrite M S a n q)
+  change-open-write : q .code ≢ 13 → C (openedToWrite M S a n q)
   unfolding openedToWrite
-  change-open-write = pick-cases C (legal (q .name) 0) _ _ (λ h. go h (fileNamed (q .name) (a .slots)) refl (vacantSlot (a .slots)) refl) (λ h. tt)
+  change-open-write ne = pick-cases C (legal (q .name) 0) _ _ (λ h. go h (fileNamed (q .name) (a .slots)) refl (vacantSlot (a .slots)) refl) (λ h. tt)
     where
       go : legal (q .name) 0 ≡ true → (x : Sought) → fileNamed (q .name) (a .slots) ≡ x → (y : Sought) → vacantSlot (a .slots) ≡ y
           → C (onSought x (onSought y (denied 6) (λ s. granted 0 (onFile a (a .free) s (newFile (q .name) (q .date)) n (writing s [])))) (λ s. denied 3))
       go h (slot s) e y f = tt
       go h nowhere e nowhere f = tt
-      go h nowhere e (slot s) f = made s h e f
+      go h nowhere e (slot s) f = made ne s h e f
 
-  change-shut : (o : Block) → block a n ≡ o → C (shutBlock M S a n q o)
-  change-shut closed e = tt
-  change-shut (listing p) e = turned closed (λ t h. absurd (omega arith))
-  change-shut (reading s j i) e = turned closed (λ t h. absurd (omega arith))
-  change-shut (writing s ub) e =
-      pick-all C (eqb (length ((file a s) .secs)) 0) _ _ (dropped s ub e) (pick-all C (eqb (length ub) 0) _ _ (turned closed (λ t h. absurd (omega arith))) (worked s ub (a .free) _ closed e refl (λ t h. absurd (omega arith))))
+  change-shut : q .code ≢ 13 → (o : Block) → block a n ≡ o → C (shutBlock M S a n q o)
+  change-shut ne closed e = tt
+  change-shut ne (listing p) e = turned ne closed (λ t h. absurd (omega arith))
+  change-shut ne (reading s j i) e = turned ne closed (λ t h. absurd (omega arith))
+  change-shut ne (writing s ub) e =
+      pick-all C (eqb (length ((file a s) .secs)) 0) _ _ (dropped ne s ub e) (pick-all C (eqb (length ub) 0) _ _ (turned ne closed (λ t h. absurd (omega arith))) (worked ne s ub (a .free) _ closed e refl (λ t h. absurd (omega arith))))
 
-  change-rewind : (o : Block) → C (rewound M S a n q o)
-  change-rewind closed = tt
-  change-rewind (listing p) = tt
-  change-rewind (reading s j i) = turned (reading s 0 0) (λ t h. absurd (omega arith))
-  change-rewind (writing s ub) = tt
+  change-rewind : q .code ≢ 13 → (o : Block) → C (rewound M S a n q o)
+  change-rewind ne closed = tt
+  change-rewind ne (listing p) = tt
+  change-rewind ne (reading s j i) = turned ne (reading s 0 0) (λ t h. absurd (omega arith))
+  change-rewind ne (writing s ub) = tt
 
-  change-list : (o : Block) → C (shownNext M S a n q o)
-  change-list closed = tt
-  change-list (listing p) = pick-all C (ltb p (length (a .slots))) _ _ (turned _ (λ t h. absurd (omega arith))) tt
-  change-list (reading s j i) = tt
-  change-list (writing s ub) = tt
+  change-list : q .code ≢ 13 → (o : Block) → C (shownNext M S a n q o)
+  change-list ne closed = tt
+  change-list ne (listing p) = pick-all C (ltb p (length (a .slots))) _ _ (turned ne _ (λ t h. absurd (omega arith))) tt
+  change-list ne (reading s j i) = tt
+  change-list ne (writing s ub) = tt
 
   change-delete : q .code ≡ 12 → C (deleted M S a n q)
   unfolding deleted
@@ -145,6 +145,9 @@ module _ (M S : ℕ) (a : Ledger) (n : ℕ) (q : Request) where
       go h (slot s) e (slot t) f = pick-all C (busy true s (a .blocks) 8) _ _ tt (pick-all C (writeProtected (attributes a s)) _ _ tt tt)
       go h (slot s) e nowhere f = pick-all C (busy true s (a .blocks) 8) _ _ tt (pick-all C (writeProtected (attributes a s)) _ _ tt (retitled s c e h f))
 
+  not13 : (k : ℕ) → eqb (q .code) k ≡ true → k ≢ 13 → q .code ≢ 13
+  not13 k h ne e = ne (sym (eqb-true (q .code) k h) ∙ e)
+
   pub changes : C (fate M S a n q)
   unfolding fate performed
   changes =
@@ -152,14 +155,14 @@ module _ (M S : ℕ) (a : Ledger) (n : ℕ) (q : Request) where
       pick-cases C (served c) _ _
       (λ sv. pick-all C (eqb (q .drive) 0) _ _
       (pick-all C (fits c (activity (block a n))) _ _
-      (pick-cases C (eqb c 0) _ _ (λ h. change-transfer (block a n) refl)
-      (λ n0. pick-cases C (eqb c 1) _ _ (λ h. change-open-read)
-      (λ n1. pick-cases C (eqb c 2) _ _ (λ h. change-open-write)
-      (λ n2. pick-cases C (eqb c 4) _ _ (λ h. change-shut (block a n) refl)
-      (λ n4. pick-cases C (eqb c 5) _ _ (λ h. change-rewind (block a n))
-      (λ n5. pick-cases C (eqb c 6) _ _ (λ h. turned (listing 0) (λ t h. absurd (omega arith)))
-      (λ n6. pick-cases C (eqb c 7) _ _ (λ h. change-list (block a n))
-      (λ n7. pick-cases C (eqb c 9) _ _ (λ h. pick-all C (isSector M S (q .position)) _ _ still tt)
+      (pick-cases C (eqb c 0) _ _ (λ h. change-transfer (not13 0 h (omega arith)) (block a n) refl)
+      (λ n0. pick-cases C (eqb c 1) _ _ (λ h. change-open-read (not13 1 h (omega arith)))
+      (λ n1. pick-cases C (eqb c 2) _ _ (λ h. change-open-write (not13 2 h (omega arith)))
+      (λ n2. pick-cases C (eqb c 4) _ _ (λ h. change-shut (not13 4 h (omega arith)) (block a n) refl)
+      (λ n4. pick-cases C (eqb c 5) _ _ (λ h. change-rewind (not13 5 h (omega arith)) (block a n))
+      (λ n5. pick-cases C (eqb c 6) _ _ (λ h. turned (not13 6 h (omega arith)) (listing 0) (λ t h. absurd (omega arith)))
+      (λ n6. pick-cases C (eqb c 7) _ _ (λ h. change-list (not13 7 h (omega arith)) (block a n))
+      (λ n7. pick-cases C (eqb c 9) _ _ (λ h. pick-all C (isSector M S (q .position)) _ _ (still (not13 9 h (omega arith))) tt)
       (λ n9. pick-cases C (eqb c 12) _ _ (λ h. change-delete (eqb-true c 12 h))
       (λ n12. change-rename (last-code c sv (eqb-false c 0 n0) (eqb-false c 1 n1) (eqb-false c 2 n2) (eqb-false c 4 n4) (eqb-false c 5 n5) (eqb-false c 6 n6) (eqb-false c 7 n7) (eqb-false c 9 n9) (eqb-false c 12 n12))))))))))))
       tt)
@@ -170,47 +173,47 @@ module _ (M S : ℕ) (a : Ledger) (n : ℕ) (q : Request) where
 
 -- block m, where n is another
 pub other-block : (a a′ : Ledger) (n : ℕ) (q : Request) → Change a n q a′ → (m : ℕ) → m ≢ n → block a′ m ≡ block a m
-other-block a a′ n q still m e = refl
-other-block a a′ n q (turned b st) m e = getD-set-other (a .blocks) n m b closed e
-other-block a a′ n q (worked s ub fr f b x y st) m e = getD-set-other (a .blocks) n m b closed e
-other-block a a′ n q (dropped s ub x) m e = getD-set-other (a .blocks) n m closed closed e
-other-block a a′ n q (made s x y w) m e = getD-set-other (a .blocks) n m (writing s []) closed e
+other-block a a′ n q (still ne) m e = refl
+other-block a a′ n q (turned ne b st) m e = getD-set-other (a .blocks) n m b closed e
+other-block a a′ n q (worked ne s ub fr f b x y st) m e = getD-set-other (a .blocks) n m b closed e
+other-block a a′ n q (dropped ne s ub x) m e = getD-set-other (a .blocks) n m closed closed e
+other-block a a′ n q (made ne s x y w) m e = getD-set-other (a .blocks) n m (writing s []) closed e
 other-block a a′ n q (gone s x y) m e = getD-set-other (a .blocks) n m (block a n) closed e
 other-block a a′ n q (retitled s x y w v) m e = getD-set-other (a .blocks) n m (block a n) closed e
 
 -- slot s: kept, or the file that n writes, or the new one, or the one that is deleted or renamed by its name
 pub data Slot (a a′ : Ledger) (n : ℕ) (q : Request) (s : ℕ) : Type 0 where
-  kept : file a′ s ≡ file a s → Slot a a′ n q s
+  kept : file a′ s ≡ file a s → (q .code ≡ 13 → fileNamed (q .name) (a .slots) ≢ slot s) → Slot a a′ n q s
   own : (ub : List ℕ) → block a n ≡ writing s ub → Slot a a′ n q s
   fresh : vacantSlot (a .slots) ≡ slot s → Slot a a′ n q s
   lost : q .code ≡ 12 → fileNamed (q .name) (a .slots) ≡ slot s → (s < length (a .slots) → file a′ s ≡ withMark (file a s)) → Slot a a′ n q s
   moved : q .code ≡ 13 → fileNamed (q .name) (a .slots) ≡ slot s → (s < length (a .slots) → file a′ s ≡ withName (file a s) (q .rename)) → Slot a a′ n q s
 
 pub slot-fate : (a a′ : Ledger) (n : ℕ) (q : Request) → Change a n q a′ → (s : ℕ) → Slot a a′ n q s
-slot-fate a a′ n q still s = kept refl
-slot-fate a a′ n q (turned b st) s = kept refl
-slot-fate a a′ n q (worked t ub fr f b x y st) s = go (ℕ-discrete s t)
+slot-fate a a′ n q (still ne) s = kept refl (λ c. absurd (ne c))
+slot-fate a a′ n q (turned ne b st) s = kept refl (λ c. absurd (ne c))
+slot-fate a a′ n q (worked ne t ub fr f b x y st) s = go (ℕ-discrete s t)
   where
     go : Dec (s ≡ t) → Slot a (onFile a fr t f n b) n q s
     go (yes e) = own ub (x ∙ ap (λ (k : ℕ). writing k ub) (sym e))
-    go (no e) = kept (getD-set-other (a .slots) t s f noFile e)
-slot-fate a a′ n q (dropped t ub x) s = go (ℕ-discrete s t)
+    go (no e) = kept (getD-set-other (a .slots) t s f noFile e) (λ c. absurd (ne c))
+slot-fate a a′ n q (dropped ne t ub x) s = go (ℕ-discrete s t)
   where
     go : Dec (s ≡ t) → Slot a (onFile a (a .free) t (withMark (file a t)) n closed) n q s
     go (yes e) = own ub (x ∙ ap (λ (k : ℕ). writing k ub) (sym e))
-    go (no e) = kept (getD-set-other (a .slots) t s (withMark (file a t)) noFile e)
-slot-fate a a′ n q (made t x y w) s = go (ℕ-discrete s t)
+    go (no e) = kept (getD-set-other (a .slots) t s (withMark (file a t)) noFile e) (λ c. absurd (ne c))
+slot-fate a a′ n q (made ne t x y w) s = go (ℕ-discrete s t)
   where
     go : Dec (s ≡ t) → Slot a (onFile a (a .free) t (newFile (q .name) (q .date)) n (writing t [])) n q s
     go (yes e) = fresh (w ∙ ap slot (sym e))
-    go (no e) = kept (getD-set-other (a .slots) t s (newFile (q .name) (q .date)) noFile e)
+    go (no e) = kept (getD-set-other (a .slots) t s (newFile (q .name) (q .date)) noFile e) (λ c. absurd (ne c))
 slot-fate a a′ n q (gone t x y) s = go (ℕ-discrete s t)
   where
     go : Dec (s ≡ t) → Slot a (onFile a (a .free ++ (file a t) .secs) t (withMark (file a t)) n (block a n)) n q s
     go (yes e) =
         lost x (y ∙ ap slot (sym e))
         (λ h. subst (λ (k : ℕ). getD (set (a .slots) k (withMark (file a k))) s noFile ≡ withMark (file a s)) e (getD-set-same (a .slots) s (withMark (file a s)) noFile h))
-    go (no e) = kept (getD-set-other (a .slots) t s (withMark (file a t)) noFile e)
+    go (no e) = kept (getD-set-other (a .slots) t s (withMark (file a t)) noFile e) (λ c. absurd (omega (arith, c, x)))
 slot-fate a a′ n q (retitled t x y w v) s = go (ℕ-discrete s t)
   where
     go : Dec (s ≡ t) → Slot a (onFile a (a .free) t (withName (file a t) (q .rename)) n (block a n)) n q s
@@ -218,7 +221,26 @@ slot-fate a a′ n q (retitled t x y w v) s = go (ℕ-discrete s t)
         moved x (y ∙ ap slot (sym e))
         (λ h. subst (λ (k : ℕ). getD (set (a .slots) k (withName (file a k) (q .rename))) s noFile ≡ withName (file a s) (q .rename)) e
         (getD-set-same (a .slots) s (withName (file a s) (q .rename)) noFile h))
-    go (no e) = kept (getD-set-other (a .slots) t s (withName (file a t) (q .rename)) noFile e)
+    go (no e) = kept (getD-set-other (a .slots) t s (withName (file a t) (q .rename)) noFile e) (λ c v. e (slot-same s t (sym v ∙ y)))
+
+pub length-kept : (a a′ : Ledger) (n : ℕ) (q : Request) → Change a n q a′ → length (a′ .slots) ≡ length (a .slots)
+length-kept a a′ n q (still ne) = refl
+length-kept a a′ n q (turned ne b st) = refl
+length-kept a a′ n q (worked ne s ub fr f b x y st) = length-set (a .slots) s f
+length-kept a a′ n q (dropped ne s ub x) = length-set (a .slots) s (withMark (file a s))
+length-kept a a′ n q (made ne s x y w) = length-set (a .slots) s (newFile (q .name) (q .date))
+length-kept a a′ n q (gone s x y) = length-set (a .slots) s (withMark (file a s))
+length-kept a a′ n q (retitled s x y w v) = length-set (a .slots) s (withName (file a s) (q .rename))
+
+-- a new name is live
+pub rename-live : (a a′ : Ledger) (n : ℕ) (q : Request) → Change a n q a′ → q .code ≡ 13 → live (q .rename) 0 ≡ true
+rename-live a a′ n q (still ne) e = absurd (ne e)
+rename-live a a′ n q (turned ne b st) e = absurd (ne e)
+rename-live a a′ n q (worked ne s ub fr f b x y st) e = absurd (ne e)
+rename-live a a′ n q (dropped ne s ub x) e = absurd (ne e)
+rename-live a a′ n q (made ne s x y w) e = absurd (ne e)
+rename-live a a′ n q (gone s x y) e = absurd (omega (arith, e, x))
+rename-live a a′ n q (retitled s x y w v) e = legal-live (q .rename) w
 
 -- who writes a slot afterwards wrote it before, or has just made it
 pub writes-before : (a a′ : Ledger) (n : ℕ) (q : Request) → n < length (a .blocks) → Change a n q a′ → (m s : ℕ) → writes (block a′ m) ≡ suc s → vacantSlot (a .slots) ≢ slot s → writes (block a m) ≡ suc s
@@ -228,11 +250,11 @@ writes-before a a′ n q hn c m s w v = go (ℕ-discrete m n)
     here b w d = ap writes (sym (ap (λ (k : ℕ). getD (set (a .blocks) n b) k closed) d ∙ getD-set-same (a .blocks) n b closed hn)) ∙ w
 
     now : (a′ : Ledger) → Change a n q a′ → writes (block a′ m) ≡ suc s → m ≡ n → writes (block a m) ≡ suc s
-    now a′ still w d = w
-    now a′ (turned b st) w d = ap (λ (k : ℕ). writes (block a k)) d ∙ st s (here b w d)
-    now a′ (worked t ub fr f b x y st) w d = ap (λ (k : ℕ). writes (block a k)) d ∙ st s (here b w d)
-    now a′ (dropped t ub x) w d = absurd (omega (arith, here closed w d))
-    now a′ (made t x y z) w d = let e : t ≡ s = omega (arith, here (writing t []) w d) in absurd (v (z ∙ ap slot e))
+    now a′ (still ne) w d = w
+    now a′ (turned ne b st) w d = ap (λ (k : ℕ). writes (block a k)) d ∙ st s (here b w d)
+    now a′ (worked ne t ub fr f b x y st) w d = ap (λ (k : ℕ). writes (block a k)) d ∙ st s (here b w d)
+    now a′ (dropped ne t ub x) w d = absurd (omega (arith, here closed w d))
+    now a′ (made ne t x y z) w d = let e : t ≡ s = omega (arith, here (writing t []) w d) in absurd (v (z ∙ ap slot e))
     now a′ (gone t x y) w d = ap (λ (k : ℕ). writes (block a k)) d ∙ here (block a n) w d
     now a′ (retitled t x y z u) w d = ap (λ (k : ℕ). writes (block a k)) d ∙ here (block a n) w d
 
@@ -278,11 +300,11 @@ module _ (a : Ledger) (t : Tidy (a .slots)) where
   pub tidy-change : (a′ : Ledger) (n : ℕ) (q : Request) → length (q .name) ≡ 11 → length (q .rename) ≡ 11
       → ((s : ℕ) (ub : List ℕ) → block a n ≡ writing s ub → (s < length (a .slots)) × (live (nameOf (a .slots) s) 0 ≡ true))
       → Change a n q a′ → Tidy (a′ .slots)
-  tidy-change a′ n q ln lr ow still = t
-  tidy-change a′ n q ln lr ow (turned b st) = t
-  tidy-change a′ n q ln lr ow (worked s ub fr f b x y st) = let o = ow s ub x in same-name s f (o .0) (ap (λ (x : List ℕ). live x 0) y ∙ o .1) y
-  tidy-change a′ n q ln lr ow (dropped s ub x) = marked s (ow s ub x .0)
-  tidy-change a′ n q ln lr ow (made s x y w) =
+  tidy-change a′ n q ln lr ow (still ne) = t
+  tidy-change a′ n q ln lr ow (turned ne b st) = t
+  tidy-change a′ n q ln lr ow (worked ne s ub fr f b x y st) = let o = ow s ub x in same-name s f (o .0) (ap (λ (x : List ℕ). live x 0) y ∙ o .1) y
+  tidy-change a′ n q ln lr ow (dropped ne s ub x) = marked s (ow s ub x .0)
+  tidy-change a′ n q ln lr ow (made ne s x y w) =
       let l = legal-live (q .name) x in
       tidy-set (a .slots) t s (newFile (q .name) (q .date)) (seek-found (λ x. vacant x 0) (a .slots) s w .low) ln (live-used (q .name) l)
       (λ v i b. live-used (nameOf (a .slots) i) (room-before (a .slots) s w i b))

@@ -20,3 +20,4 @@ pub mod Service
 pub mod History
 pub mod Demands
 pub mod Runs
+pub mod Rests

@@ -23,7 +23,7 @@ use Rattle.chains.specs.Addresses.{Shape, Shaped}
 use Rattle.chains.specs.Directory.{Listing}
 use Rattle.demands.specs.Ledger.{Ledger, Request, Fate, denied, granted, reply, gives, after, fate}
 use Rattle.demands.specs.Relation.{tb, Agrees}
-use Rattle.demands.specs.Meets.{request, Met}
+use Rattle.demands.specs.Meets.{request, Met, Sure}
 use Rattle.demands.specs.Calls.{call-met, preset-still, extension-still}
 use Rattle.demands.specs.Tidy.{Tidy}
 use Rattle.demands.specs.Changes.{Change, Changes, changes, tidy-change, own-live}
@@ -53,6 +53,7 @@ pub record Step (M S : ℕ) (ds : List ℕ) (x : Machine) (a : Ledger) (n b : �
   pub fine : Fine M S ds (next flex x (asking n b)) (after a (fate M S a n (request (x .tab) n b)))
   pub ans : answers flex x n b ≡ reply (fate M S a n (request (x .tab) n b))
   pub byte : gave flex x n b ≡ gives (fate M S a n (request (x .tab) n b))
+  pub sure : Sure (fate M S a n (request (x .tab) n b))
 
 module _ (M S : ℕ) (z : Shape M S) (ds : List ℕ) (d : Listing S ds) where
   module _ (x : Machine) (a : Ledger) (f : Fine M S ds x a) where
@@ -71,6 +72,7 @@ module _ (M S : ℕ) (z : Shape M S) (ds : List ℕ) (d : Listing S ds) where
           fine = record { agrees = m .rep; tidy = tidy-after n b hn φ (changes M S a n (request (x .tab) n b)) };
           ans = m .ans;
           byte = m .byte;
+          sure = m .sure;
         }
 
     -- a block that there is not: nothing happens
