@@ -21,3 +21,4 @@ pub mod History
 pub mod Demands
 pub mod Runs
 pub mod Rests
+pub mod Third

@@ -162,7 +162,7 @@ module _ (M S : ℕ) (z : Shape M S) (ds : List ℕ) (d : Listing S ds) (img tab
       (scan-seek (vacant img) (λ x. vacant x 0) (slotsOf ds) (a .slots) (r .ns) (λ i b. vacant-at img _ (getD (slotsOf ds) i 0) (r .holds i b .name)))
 
   -- blocks in use
-  uses-is : (readers : Bool) (s : ℕ) → s < length (slotsOf ds) → (n : ℕ) (b : Block) → Keeps S (slotsOf ds) tab n (a .slots) b
+  pub uses-is : (readers : Bool) (s : ℕ) → s < length (slotsOf ds) → (n : ℕ) (b : Block) → Keeps S (slotsOf ds) tab n (a .slots) b
       → uses readers tab (placeOf (getD (slotsOf ds) s 0)) n ≡ holdsOpen readers s b
   unfolding uses counts
   uses-is true s hs n closed k = rw k refl
