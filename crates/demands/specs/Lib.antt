@@ -22,3 +22,4 @@ pub mod Demands
 pub mod Runs
 pub mod Rests
 pub mod Third
+pub mod First
