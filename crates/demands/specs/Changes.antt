@@ -42,8 +42,8 @@ pub data Change (a : Ledger) (n : ℕ) (q : Request) : Ledger → Type 0 where
   -- a new file; one deleted by its name; one renamed by its name
   made : q .code ≢ 13 → (s : ℕ) → legal (q .name) 0 ≡ true → fileNamed (q .name) (a .slots) ≡ nowhere → vacantSlot (a .slots) ≡ slot s
       → Change a n q (onFile a (a .free) s (newFile (q .name) (q .date)) n (writing s []))
-  gone : (s : ℕ) → q .code ≡ 12 → fileNamed (q .name) (a .slots) ≡ slot s → Change a n q (onFile a (a .free ++ (file a s) .secs) s (withMark (file a s)) n (block a n))
-  retitled : (s : ℕ) → q .code ≡ 13 → fileNamed (q .name) (a .slots) ≡ slot s → legal (q .rename) 0 ≡ true → fileNamed (q .rename) (a .slots) ≡ nowhere
+  gone : (s : ℕ) → q .code ≡ 12 → fileNamed (q .name) (a .slots) ≡ slot s → busy true s (a .blocks) 8 ≡ false → Change a n q (onFile a (a .free ++ (file a s) .secs) s (withMark (file a s)) n (block a n))
+  retitled : (s : ℕ) → q .code ≡ 13 → fileNamed (q .name) (a .slots) ≡ slot s → busy true s (a .blocks) 8 ≡ false → legal (q .rename) 0 ≡ true → fileNamed (q .rename) (a .slots) ≡ nowhere
       → Change a n q (onFile a (a .free) s (withName (file a s) (q .rename)) n (block a n))
 
 abbrev pub Changes : Ledger → ℕ → Request → Fate → Type 0
@@ -130,7 +130,7 @@ module _ (M S : ℕ) (a : Ledger) (n : ℕ) (q : Request) where
           (granted 0 (onFile a (a .free ++ (file a s) .secs) s (withMark (file a s)) n (block a n)))))))
       go nowhere e = tt
       go (slot s) e =
-          pick-all C (busy true s (a .blocks) 8) _ _ tt (pick-all C (deleteProtected (attributes a s)) _ _ tt (pick-all C (writeProtected (attributes a s)) _ _ tt (gone s c e)))
+          pick-cases C (busy true s (a .blocks) 8) _ _ (λ h. tt) (λ h. pick-all C (deleteProtected (attributes a s)) _ _ tt (pick-all C (writeProtected (attributes a s)) _ _ tt (gone s c e h)))
 
   change-rename : q .code ≡ 13 → C (renamed M S a n q)
   unfolding renamed
@@ -143,7 +143,7 @@ module _ (M S : ℕ) (a : Ledger) (n : ℕ) (q : Request) where
           (onSought y (granted 0 (onFile a (a .free) s (withName (file a s) (q .rename)) n (block a n))) (λ t. denied 3)))))
       go h nowhere e y f = tt
       go h (slot s) e (slot t) f = pick-all C (busy true s (a .blocks) 8) _ _ tt (pick-all C (writeProtected (attributes a s)) _ _ tt tt)
-      go h (slot s) e nowhere f = pick-all C (busy true s (a .blocks) 8) _ _ tt (pick-all C (writeProtected (attributes a s)) _ _ tt (retitled s c e h f))
+      go h (slot s) e nowhere f = pick-cases C (busy true s (a .blocks) 8) _ _ (λ k. tt) (λ k. pick-all C (writeProtected (attributes a s)) _ _ tt (retitled s c e k h f))
 
   not13 : (k : ℕ) → eqb (q .code) k ≡ true → k ≢ 13 → q .code ≢ 13
   not13 k h ne e = ne (sym (eqb-true (q .code) k h) ∙ e)
@@ -178,16 +178,16 @@ other-block a a′ n q (turned ne b st) m e = getD-set-other (a .blocks) n m b c
 other-block a a′ n q (worked ne s ub fr f b x y st) m e = getD-set-other (a .blocks) n m b closed e
 other-block a a′ n q (dropped ne s ub x) m e = getD-set-other (a .blocks) n m closed closed e
 other-block a a′ n q (made ne s x y w) m e = getD-set-other (a .blocks) n m (writing s []) closed e
-other-block a a′ n q (gone s x y) m e = getD-set-other (a .blocks) n m (block a n) closed e
-other-block a a′ n q (retitled s x y w v) m e = getD-set-other (a .blocks) n m (block a n) closed e
+other-block a a′ n q (gone s x y by) m e = getD-set-other (a .blocks) n m (block a n) closed e
+other-block a a′ n q (retitled s x y by w v) m e = getD-set-other (a .blocks) n m (block a n) closed e
 
 -- slot s: kept, or the file that n writes, or the new one, or the one that is deleted or renamed by its name
 pub data Slot (a a′ : Ledger) (n : ℕ) (q : Request) (s : ℕ) : Type 0 where
   kept : file a′ s ≡ file a s → (q .code ≡ 13 → fileNamed (q .name) (a .slots) ≢ slot s) → Slot a a′ n q s
   own : (ub : List ℕ) → block a n ≡ writing s ub → Slot a a′ n q s
   fresh : vacantSlot (a .slots) ≡ slot s → Slot a a′ n q s
-  lost : q .code ≡ 12 → fileNamed (q .name) (a .slots) ≡ slot s → (s < length (a .slots) → file a′ s ≡ withMark (file a s)) → Slot a a′ n q s
-  moved : q .code ≡ 13 → fileNamed (q .name) (a .slots) ≡ slot s → (s < length (a .slots) → file a′ s ≡ withName (file a s) (q .rename)) → Slot a a′ n q s
+  lost : q .code ≡ 12 → fileNamed (q .name) (a .slots) ≡ slot s → busy true s (a .blocks) 8 ≡ false → (s < length (a .slots) → file a′ s ≡ withMark (file a s)) → Slot a a′ n q s
+  moved : q .code ≡ 13 → fileNamed (q .name) (a .slots) ≡ slot s → busy true s (a .blocks) 8 ≡ false → (s < length (a .slots) → file a′ s ≡ withName (file a s) (q .rename)) → Slot a a′ n q s
 
 pub slot-fate : (a a′ : Ledger) (n : ℕ) (q : Request) → Change a n q a′ → (s : ℕ) → Slot a a′ n q s
 slot-fate a a′ n q (still ne) s = kept refl (λ c. absurd (ne c))
@@ -207,18 +207,18 @@ slot-fate a a′ n q (made ne t x y w) s = go (ℕ-discrete s t)
     go : Dec (s ≡ t) → Slot a (onFile a (a .free) t (newFile (q .name) (q .date)) n (writing t [])) n q s
     go (yes e) = fresh (w ∙ ap slot (sym e))
     go (no e) = kept (getD-set-other (a .slots) t s (newFile (q .name) (q .date)) noFile e) (λ c. absurd (ne c))
-slot-fate a a′ n q (gone t x y) s = go (ℕ-discrete s t)
+slot-fate a a′ n q (gone t x y by) s = go (ℕ-discrete s t)
   where
     go : Dec (s ≡ t) → Slot a (onFile a (a .free ++ (file a t) .secs) t (withMark (file a t)) n (block a n)) n q s
     go (yes e) =
-        lost x (y ∙ ap slot (sym e))
+        lost x (y ∙ ap slot (sym e)) (ap (λ (k : ℕ). busy true k (a .blocks) 8) e ∙ by)
         (λ h. subst (λ (k : ℕ). getD (set (a .slots) k (withMark (file a k))) s noFile ≡ withMark (file a s)) e (getD-set-same (a .slots) s (withMark (file a s)) noFile h))
     go (no e) = kept (getD-set-other (a .slots) t s (withMark (file a t)) noFile e) (λ c. absurd (omega (arith, c, x)))
-slot-fate a a′ n q (retitled t x y w v) s = go (ℕ-discrete s t)
+slot-fate a a′ n q (retitled t x y by w v) s = go (ℕ-discrete s t)
   where
     go : Dec (s ≡ t) → Slot a (onFile a (a .free) t (withName (file a t) (q .rename)) n (block a n)) n q s
     go (yes e) =
-        moved x (y ∙ ap slot (sym e))
+        moved x (y ∙ ap slot (sym e)) (ap (λ (k : ℕ). busy true k (a .blocks) 8) e ∙ by)
         (λ h. subst (λ (k : ℕ). getD (set (a .slots) k (withName (file a k) (q .rename))) s noFile ≡ withName (file a s) (q .rename)) e
         (getD-set-same (a .slots) s (withName (file a s) (q .rename)) noFile h))
     go (no e) = kept (getD-set-other (a .slots) t s (withName (file a t) (q .rename)) noFile e) (λ c v. e (slot-same s t (sym v ∙ y)))
@@ -229,18 +229,18 @@ length-kept a a′ n q (turned ne b st) = refl
 length-kept a a′ n q (worked ne s ub fr f b x y st) = length-set (a .slots) s f
 length-kept a a′ n q (dropped ne s ub x) = length-set (a .slots) s (withMark (file a s))
 length-kept a a′ n q (made ne s x y w) = length-set (a .slots) s (newFile (q .name) (q .date))
-length-kept a a′ n q (gone s x y) = length-set (a .slots) s (withMark (file a s))
-length-kept a a′ n q (retitled s x y w v) = length-set (a .slots) s (withName (file a s) (q .rename))
+length-kept a a′ n q (gone s x y by) = length-set (a .slots) s (withMark (file a s))
+length-kept a a′ n q (retitled s x y by w v) = length-set (a .slots) s (withName (file a s) (q .rename))
 
--- a new name is live
-pub rename-live : (a a′ : Ledger) (n : ℕ) (q : Request) → Change a n q a′ → q .code ≡ 13 → live (q .rename) 0 ≡ true
-rename-live a a′ n q (still ne) e = absurd (ne e)
-rename-live a a′ n q (turned ne b st) e = absurd (ne e)
-rename-live a a′ n q (worked ne s ub fr f b x y st) e = absurd (ne e)
-rename-live a a′ n q (dropped ne s ub x) e = absurd (ne e)
-rename-live a a′ n q (made ne s x y w) e = absurd (ne e)
-rename-live a a′ n q (gone s x y) e = absurd (omega (arith, e, x))
-rename-live a a′ n q (retitled s x y w v) e = legal-live (q .rename) w
+-- a new name is legal
+pub rename-legal : (a a′ : Ledger) (n : ℕ) (q : Request) → Change a n q a′ → q .code ≡ 13 → legal (q .rename) 0 ≡ true
+rename-legal a a′ n q (still ne) e = absurd (ne e)
+rename-legal a a′ n q (turned ne b st) e = absurd (ne e)
+rename-legal a a′ n q (worked ne s ub fr f b x y st) e = absurd (ne e)
+rename-legal a a′ n q (dropped ne s ub x) e = absurd (ne e)
+rename-legal a a′ n q (made ne s x y w) e = absurd (ne e)
+rename-legal a a′ n q (gone s x y by) e = absurd (omega (arith, e, x))
+rename-legal a a′ n q (retitled s x y by w v) e = w
 
 -- who writes a slot afterwards wrote it before, or has just made it
 pub writes-before : (a a′ : Ledger) (n : ℕ) (q : Request) → n < length (a .blocks) → Change a n q a′ → (m s : ℕ) → writes (block a′ m) ≡ suc s → vacantSlot (a .slots) ≢ slot s → writes (block a m) ≡ suc s
@@ -255,8 +255,8 @@ writes-before a a′ n q hn c m s w v = go (ℕ-discrete m n)
     now a′ (worked ne t ub fr f b x y st) w d = ap (λ (k : ℕ). writes (block a k)) d ∙ st s (here b w d)
     now a′ (dropped ne t ub x) w d = absurd (omega (arith, here closed w d))
     now a′ (made ne t x y z) w d = let e : t ≡ s = omega (arith, here (writing t []) w d) in absurd (v (z ∙ ap slot e))
-    now a′ (gone t x y) w d = ap (λ (k : ℕ). writes (block a k)) d ∙ here (block a n) w d
-    now a′ (retitled t x y z u) w d = ap (λ (k : ℕ). writes (block a k)) d ∙ here (block a n) w d
+    now a′ (gone t x y by) w d = ap (λ (k : ℕ). writes (block a k)) d ∙ here (block a n) w d
+    now a′ (retitled t x y by z u) w d = ap (λ (k : ℕ). writes (block a k)) d ∙ here (block a n) w d
 
     go : Dec (m ≡ n) → writes (block a m) ≡ suc s
     go (yes d) = now a′ c w d
@@ -309,8 +309,8 @@ module _ (a : Ledger) (t : Tidy (a .slots)) where
       tidy-set (a .slots) t s (newFile (q .name) (q .date)) (seek-found (λ x. vacant x 0) (a .slots) s w .low) ln (live-used (q .name) l)
       (λ v i b. live-used (nameOf (a .slots) i) (room-before (a .slots) s w i b))
       (λ v j ne b u. found-none (q .name) (a .slots) t y j b u)
-  tidy-change a′ n q ln lr ow (gone s x y) = marked s (seek-found (λ x. Rattle.rules.specs.Directory.named x (q .name) 0) (a .slots) s y .low)
-  tidy-change a′ n q ln lr ow (retitled s x y w v) =
+  tidy-change a′ n q ln lr ow (gone s x y by) = marked s (seek-found (λ x. Rattle.rules.specs.Directory.named x (q .name) 0) (a .slots) s y .low)
+  tidy-change a′ n q ln lr ow (retitled s x y by w v) =
       let l = legal-live (q .rename) w in
       let p = seek-found (λ x. Rattle.rules.specs.Directory.named x (q .name) 0) (a .slots) s y in
       let hit = named-hit (nameOf (a .slots) s) (q .name) (p .hit) in

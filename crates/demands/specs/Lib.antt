@@ -23,3 +23,4 @@ pub mod Runs
 pub mod Rests
 pub mod Third
 pub mod First
+pub mod Sent

@@ -20,7 +20,7 @@ use Rattle.demands.specs.Meets.{request, Sure}
 use Rattle.demands.specs.Searches.{seek-found, Named, named-hit, slot-same}
 use Rattle.demands.specs.Opens.{legal-live}
 use Rattle.demands.specs.Tidy.{nameOf, Tidy, found-there}
-use Rattle.demands.specs.Changes.{Change, Changes, changes, length-kept, rename-live, Slot, kept, own, fresh, lost, moved, slot-fate, writes-before, live-not-room}
+use Rattle.demands.specs.Changes.{Change, Changes, changes, length-kept, rename-legal, Slot, kept, own, fresh, lost, moved, slot-fate, writes-before, live-not-room}
 use Rattle.demands.specs.Service.{flex, Call, setting, extending, asking, Machine, Entry, answers, gave, next, entry, run, log}
 use Rattle.demands.specs.History.{then, history, deletes, renames, nameAfter, nameThen, Survives, Unnamed}
 use Rattle.demands.specs.Runs.{Fine, Step, step, one, set-step, extend-step}
@@ -72,8 +72,8 @@ module _ (a : Ledger) (t : Tidy (a .slots)) (s : ℕ) (f : File) (r : Rests a s 
         go (kept e k) = e ∙ r .is ∙ sym (still-so u refl k)
         go (own ub e) = absurd (r .quiet n h8 (ap writes e))
         go (fresh e) = absurd (live-not-room (a .slots) s live-here e)
-        go (lost e v g) = absurd (spared e (found-back (q .name) v))
-        go (moved e v g) =
+        go (lost e v by g) = absurd (spared e (found-back (q .name) v))
+        go (moved e v by g) =
             g (r .low) ∙ ap (λ (x : File). withName x (q .rename)) (r .is) ∙ sym (ap (λ (w : Bool). titled f w (q .rename)) (u-yes e (found-back (q .name) v)))
 
     -- a new name is live
@@ -84,7 +84,7 @@ module _ (a : Ledger) (t : Tidy (a .slots)) (s : ℕ) (f : File) (r : Rests a s 
         go false e = r .alive
         go true e =
             let p = pick-both (eqb (q .code) 13) (same (q .name) (f .name)) e in
-            rename-live a a′ n q c (eqb-true (q .code) 13 (p .0))
+            legal-live (q .rename) (rename-legal a a′ n q c (eqb-true (q .code) 13 (p .0)))
 
     pub rests-on : Rests a′ s (titled f u (q .rename))
     rests-on =
