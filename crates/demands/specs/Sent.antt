@@ -45,6 +45,14 @@ module _ (M S : ℕ) (a : Ledger) (n : ℕ) (q : Request) where
   fate-zero o e d b f =
       fate-of 0 e refl d (ap (λ (x : Block). fits 0 (activity x)) b ∙ f) ∙ (rw (eq-eqb (q .code) 0 e, b) refl)
 
+pub fits-two : fits 0 2 ≡ true
+unfolding fits within
+fits-two = refl
+
+pub fits-one : fits 0 1 ≡ true
+unfolding fits within
+fits-one = refl
+
 -- ---- lists of sectors' bytes
 
 concat-snoc : (ds : List (List ℕ)) (d : List ℕ) → concat (ds ++ d ∷ []) ≡ concat ds ++ d
@@ -205,3 +213,104 @@ module _ (M S : ℕ) (z : Shape M S) (ds : List ℕ) (d : Listing S ds) where
         go (fresh e) = absurd (live-not-room (a .slots) s (alive .0) e)
         go (lost e v by k) = absurd (shut by)
         go (moved e v by k) = absurd (shut by)
+
+  -- ---- over the log
+
+  -- what the entry adds to the bytes sent
+  abbrev pub ownByte : ℕ → Entry → List ℕ
+  ownByte n e = pick (eqb (e .n) n) (pick (eqb (e .ans) 0) (e .ask .byte ∷ []) []) []
+
+  sent-own : (n : ℕ) (e : Entry) (es : List Entry) → sentBy n (e ∷ es) ≡ ownByte n e ++ sentBy n es
+  unfolding sentBy
+  sent-own n e es = go (eqb (e .n) n) (eqb (e .ans) 0)
+    where
+      go : (u v : Bool) → pick u (pick v (e .ask .byte ∷ sentBy n es) (sentBy n es)) (sentBy n es) ≡ pick u (pick v (e .ask .byte ∷ []) []) [] ++ sentBy n es
+      go true true = refl
+      go true false = refl
+      go false v = refl
+
+  module _ (x : Machine) (a : Ledger) (g : Fine M S ds x a) (m b : ℕ) where
+    abbrev e : Entry
+    e = record { n = m; ask = request (x .tab) m b; ans = answers flex x m b; back = gave flex x m b }
+
+    -- an entry that was not accepted
+    still : answers flex x m b ≢ 0 → then M S a e ≡ a
+    still q = rw (ne-eqb (answers flex x m b) 0 q) refl
+
+    beyond : 8 ≤ m → answers flex x m b ≢ 0
+    beyond h q = let w = one M S z ds d x a g m b in
+        omega (arith, q, w .1 ∙ ap (λ (u : Bool). pick u (reply (fate M S a m (request (x .tab) m b))) 13) (le-ltb m 8 h))
+
+    module _ (n s : ℕ) (nm sent : List ℕ) (hn : n < 8) (w : Wrote a n s nm sent) where
+      abbrev Now : Type 0
+      Now = Wrote (then M S a e) n s nm (sent ++ ownByte n e) × (m ≡ n → 1 ≤ freeCount (x .img) → answers flex x m b ≡ 0)
+
+      kept-by : (a′ : Ledger) → block a′ n ≡ block a n → file a′ s ≡ file a s → Wrote a′ n s nm (sent ++ [])
+      kept-by a′ p k =
+          record {
+            left = w .left;
+            block = p ∙ w .block;
+            name = ap (λ (y : File). y .name) k ∙ w .name;
+            bytes = ap (λ (y : File). content (y .body) (w .left)) k ∙ w .bytes ∙ sym (append-nil sent);
+            whole = λ y. ap length (append-nil sent) ∙ w .whole y ∙ ap (λ (y : File). 252 * length (y .secs)) (sym k);
+            part = λ y. ap (λ (l : List ℕ). length l + 252) (append-nil sent) ∙ w .part y ∙ ap (λ (y : File). 252 * length (y .secs) + length (w .left)) (sym k);
+          }
+
+      -- another block
+      other : m ≢ n → Now
+      other ne = (rw (ne-eqb m n ne) (go (decLt m 8) (ℕ-discrete (answers flex x m b) 0)), λ q. absurd (ne q))
+        where
+          go : Dec (m < 8) → Dec (answers flex x m b ≡ 0) → Wrote (then M S a e) n s nm (sent ++ [])
+          go h (no q) = subst (λ (y : Ledger). Wrote y n s nm (sent ++ [])) (sym (still q)) (kept-by a refl refl)
+          go (no h) (yes q) = absurd (beyond (omega arith) q)
+          go (yes h) (yes q) = rw (eq-eqb (answers flex x m b) 0 q) (by (fate M S a m (request (x .tab) m b)) (changes M S a m (request (x .tab) m b)))
+            where
+              by : (φ : Fate) → Changes a m (request (x .tab) m b) φ → Wrote (after a φ) n s nm (sent ++ [])
+              by (denied v) c = kept-by a refl refl
+              by (granted v a′) c =
+                  let k = open-kept x a g m h (request (x .tab) m b) a′ c n s hn (λ y. ne (sym y)) (ap opens (w .block)) in
+                  kept-by a′ (k .0) (k .1)
+
+      -- its own
+      own-call : m ≡ n → (request (x .tab) m b) .code ≡ 0 → Now
+      own-call q c =
+          let hm : m < 8 = omega arith in
+          let bm : block a m ≡ writing s (w .left) = ap (block a) q ∙ w .block in
+          let wr : Writing S (slotsOf ds) (x .tab) m (file a s) s (w .left) = subst (λ (y : Block). Keeps S (slotsOf ds) (x .tab) m (a .slots) y) bm (g .agrees .keeps m hm) in
+          let φ : fate M S a m (request (x .tab) m b) ≡ transferred M S a m (request (x .tab) m b) (writing s (w .left)) =
+          fate-zero M S a m (request (x .tab) m b) (writing s (w .left)) c (wr .drive) bm fits-two in
+          let st = step M S z ds d x a g m b hm in
+          let wm : Wrote a m s nm sent = record { left = w .left; block = bm; name = w .name; bytes = w .bytes; whole = w .whole; part = w .part } in
+          let y = subst (Wrought a m s nm sent b) (sym φ) (own-write x a g m s nm sent hm wm (request (x .tab) m b)) in
+          rw (eq-eqb m n q) (by (fate M S a m (request (x .tab) m b)) (st .ans) y q)
+        where
+          by : (φ : Fate) → answers flex x m b ≡ reply φ → Wrought a m s nm sent b φ → m ≡ n
+              → Wrote (pick (eqb (answers flex x m b) 0) (after a φ) a) n s nm (sent ++ pick (eqb (answers flex x m b) 0) (b ∷ []) []) × (m ≡ n → 1 ≤ freeCount (x .img) → answers flex x m b ≡ 0)
+          by φ an (took a′ v) q = (rw (eq-eqb (answers flex x m b) 0 an) (subst (λ (k : ℕ). Wrote a′ k s nm (sent ++ b ∷ [])) q v), λ r f. an)
+          by φ an (full v) q = (
+            rw (ne-eqb (answers flex x m b) 0 (omega (arith, an))) (kept-by a refl refl),
+            λ r f. absurd (omega (arith, f, g .agrees .free .size, ap length v)),
+          )
+
+      pub wrote-one : (m ≡ n → (request (x .tab) m b) .code ≡ 0) → Now
+      wrote-one c = go (ℕ-discrete m n)
+        where
+          go : Dec (m ≡ n) → Now
+          go (yes q) = own-call q (c q)
+          go (no q) = other q
+
+  -- WRITING: whatever else is called, the file has what was sent to it, and while a sector is free every byte is accepted
+  pub written : (cs : List Call) (x : Machine) (a : Ledger) → Fine M S ds x a → (n s : ℕ) (nm sent : List ℕ) → n < 8 → Wrote a n s nm sent → Only n 0 (log flex x cs)
+      → Wrote (history M S a (log flex x cs)) n s nm (sent ++ sentBy n (log flex x cs)) × Accepts flex n x cs
+  unfolding log history entry sentBy
+  written [] x a g n s nm sent hn w op = (subst (λ (l : List ℕ). Wrote a n s nm l) (sym (append-nil sent)) w, tt)
+  written (setting m i v ∷ cs) x a g n s nm sent hn w op = written cs (next flex x (setting m i v)) a (set-step M S z ds d x a g m i v) n s nm sent hn w op
+  written (extending m c ∷ cs) x a g n s nm sent hn w op = written cs (next flex x (extending m c)) a (extend-step M S z ds d x a g m c) n s nm sent hn w op
+  written (asking m b ∷ cs) x a g n s nm sent hn w op =
+      let en = e x a g m b in
+      let w1 = wrote-one x a g m b n s nm sent hn w (op .0) in
+      let w2 = written cs (next flex x (asking m b)) (then M S a en) (one M S z ds d x a g m b .0) n s nm (sent ++ ownByte n en) hn (w1 .0) (op .1) in (
+        subst (λ (l : List ℕ). Wrote (history M S (then M S a en) (log flex (next flex x (asking m b)) cs)) n s nm l)
+            (append-assoc sent (ownByte n en) (sentBy n (log flex (next flex x (asking m b)) cs)) ∙ ap (λ (l : List ℕ). sent ++ l) (sym (sent-own n en (log flex (next flex x (asking m b)) cs)))) (w2 .0),
+        (w1 .1, w2 .1),
+      )
