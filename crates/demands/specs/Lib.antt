@@ -24,3 +24,4 @@ pub mod Rests
 pub mod Third
 pub mod First
 pub mod Sent
+pub mod Got

@@ -234,10 +234,10 @@ module _ (M S : ℕ) (z : Shape M S) (ds : List ℕ) (d : Listing S ds) where
     e = record { n = m; ask = request (x .tab) m b; ans = answers flex x m b; back = gave flex x m b }
 
     -- an entry that was not accepted
-    still : answers flex x m b ≢ 0 → then M S a e ≡ a
+    pub still : answers flex x m b ≢ 0 → then M S a e ≡ a
     still q = rw (ne-eqb (answers flex x m b) 0 q) refl
 
-    beyond : 8 ≤ m → answers flex x m b ≢ 0
+    pub beyond : 8 ≤ m → answers flex x m b ≢ 0
     beyond h q = let w = one M S z ds d x a g m b in
         omega (arith, q, w .1 ∙ ap (λ (u : Bool). pick u (reply (fate M S a m (request (x .tab) m b))) 13) (le-ltb m 8 h))
 
