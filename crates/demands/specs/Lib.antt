@@ -25,3 +25,4 @@ pub mod Third
 pub mod First
 pub mod Sent
 pub mod Got
+pub mod Second

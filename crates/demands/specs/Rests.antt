@@ -44,7 +44,7 @@ module _ (a : Ledger) (t : Tidy (a .slots)) (s : ℕ) (f : File) (r : Rests a s 
   live-here = ap (λ (x : List ℕ). live x 0) name-is ∙ r .alive
 
   -- found by its name, and nothing else is
-  found : fileNamed (f .name) (a .slots) ≡ slot s
+  pub found : fileNamed (f .name) (a .slots) ≡ slot s
   found = subst (λ (x : List ℕ). fileNamed x (a .slots) ≡ slot s) name-is (found-there (a .slots) t s (r .low) live-here)
 
   found-back : (nm : List ℕ) → fileNamed nm (a .slots) ≡ slot s → nm ≡ f .name
