@@ -26,3 +26,4 @@ pub mod First
 pub mod Sent
 pub mod Got
 pub mod Second
+pub mod Blank
