@@ -27,3 +27,4 @@ pub mod Sent
 pub mod Got
 pub mod Second
 pub mod Blank
+pub mod Fakes
