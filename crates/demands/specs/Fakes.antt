@@ -16,7 +16,7 @@ use Rattle.demands.specs.Ledger.{Ledger, seek, busy, padTo, openedToRead
 use Rattle.demands.specs.Survey.{ledgerOf, fileAt, filesAt}
 use Rattle.demands.specs.Service.{Service, flex, Reply, replied, saysOf, Call, setting, extending, asking, Machine, Entry, answers, gave, next, entry, run, log}
 use Rattle.demands.specs.History.{history, sentBy, nameThen}
-use Rattle.demands.specs.Demands.{Start, Demand2, Demand3, Asks, Created, WrittenTo, ClosedWith, ReadBack, surveyFirst, surveySecond}
+use Rattle.demands.specs.Demands.{Start, told, Demand2, Demand3, Asks, Created, WrittenTo, ClosedWith, ReadBack, surveyFirst, surveySecond}
 use Rattle.demands.specs.Blank.{blank, blankImage, blankStores, blank-start}
 
 -- ---- the fakes
@@ -97,7 +97,7 @@ inventing = record { preset = flex .preset; extension = flex .extension; call = 
 -- ---- refuted
 
 pub refusing-fails : Demand2 refusing → ⊥
-unfolding rules blank blankImage blankStores run
+unfolding rules blank blankImage blankStores run log history ledgerOf
 refusing-fails d =
     let q : _≡_ {A = ℕ} 18 0 = ap saysOf (d .presets blank blank-start [] 0 4 65 (omega arith) refl refl) in omega arith
 
@@ -106,15 +106,15 @@ named : List Call
 named = setting 0 4 65 ∷ setting 0 12 66 ∷ setting 0 0 2 ∷ []
 
 pub deaf-fails : Demand2 deaf → ⊥
-unfolding rules blank blankImage blankStores run next named
+unfolding rules blank blankImage blankStores run next named log entry history ledgerOf filesAt fileAt walk seek fate performed openedToWrite sentBy nameThen
 deaf-fails d =
-    let c : Created deaf (run deaf blank named) 0 1040 0 = d .creates blank blank-start named 0 1040 0 (record { block = omega arith; function = refl; drive = refl }) refl refl refl refl in
+    let c : Created deaf 1 5 (run deaf blank named) (told deaf blank named) 0 1040 0 = d .creates blank blank-start named 0 0 0 (record { block = omega arith; function = refl; drive = refl }) refl refl refl refl in
     let q : _≡_ {A = ℕ} 18 0 = c .opens in omega arith
 
 pub stuck-fails : Demand2 stuck → ⊥
-unfolding rules blank blankImage blankStores run next named log entry sentBy nameThen
+unfolding rules blank blankImage blankStores run next named log entry history ledgerOf filesAt fileAt walk seek fate performed openedToWrite sentBy nameThen
 stuck-fails d =
-    let c : Created stuck (run stuck blank named) 0 1040 0 = d .creates blank blank-start named 0 1040 0 (record { block = omega arith; function = refl; drive = refl }) refl refl refl refl in
+    let c : Created stuck 1 5 (run stuck blank named) (told stuck blank named) 0 1040 0 = d .creates blank blank-start named 0 0 0 (record { block = omega arith; function = refl; drive = refl }) refl refl refl refl in
     let w = c .writes (asking 0 7 ∷ setting 0 0 4 ∷ []) ((λ q. refl), tt) in
     let k = w .close 0 refl (omega arith) in
     let r = k .back (setting 0 0 1 ∷ []) tt 0 0 (record { block = omega arith; function = refl; drive = refl }) refl refl in
@@ -122,16 +122,16 @@ stuck-fails d =
     let q : _≡_ {A = ℕ} 42 7 = y .0 refl .1 in omega arith
 
 pub nodding-fails : Demand2 nodding → ⊥
-unfolding rules blank blankImage blankStores run next named log entry sentBy
+unfolding rules blank blankImage blankStores run next named log entry history ledgerOf filesAt fileAt walk seek fate performed openedToWrite sentBy nameThen
 nodding-fails d =
-    let c : Created nodding (run nodding blank named) 0 1040 0 = d .creates blank blank-start named 0 1040 0 (record { block = omega arith; function = refl; drive = refl }) refl refl refl refl in
+    let c : Created nodding 1 5 (run nodding blank named) (told nodding blank named) 0 1040 0 = d .creates blank blank-start named 0 0 0 (record { block = omega arith; function = refl; drive = refl }) refl refl refl refl in
     let w = c .writes (asking 0 7 ∷ []) ((λ q. refl), tt) in
     let q : _≡_ {A = ℕ} 0 1 = w .size in omega arith
 
 pub eager-fails : Demand2 eager → ⊥
-unfolding rules blank blankImage blankStores run next named log entry sentBy
+unfolding rules blank blankImage blankStores run next named log entry history ledgerOf filesAt fileAt walk seek fate performed openedToWrite sentBy nameThen
 eager-fails d =
-    let c : Created eager (run eager blank named) 0 1040 0 = d .creates blank blank-start named 0 1040 0 (record { block = omega arith; function = refl; drive = refl }) refl refl refl refl in
+    let c : Created eager 1 5 (run eager blank named) (told eager blank named) 0 1040 0 = d .creates blank blank-start named 0 0 0 (record { block = omega arith; function = refl; drive = refl }) refl refl refl refl in
     let w = c .writes [] tt in
     let q : _≡_ {A = ℕ} 1 0 = w .size in omega arith
 

@@ -12,14 +12,11 @@ use lib.Dec.{eqb, ltb}
 use borrow.Author.Tests.{eq-eqb, ne-eqb, eqb-true, lt-ltb, le-ltb}
 use Rattle.rules.specs.Bytes.{pick, within, wordAt, part, over, one, zeros, same}
 use Rattle.rules.specs.Stores.{Put, put, puts}
-use Rattle.rules.specs.Image.{lastTrack, perTrack}
 use Rattle.rules.specs.Names.{legal}
-use Rattle.rules.specs.Directory.{live, directory, slotsOf, find, vacancy, sizeAt}
+use Rattle.rules.specs.Directory.{live, directory, slotsOf, sizeAt}
 use Rattle.rules.specs.Outcome.{Effect, effect}
 use Rattle.rules.specs.Block.{idle, presettable, presetIn}
 use Rattle.rules.specs.Call.{served, fits}
-use Rattle.rules.specs.declared.Lookup.{Lookup}
-use Rattle.rules.specs.declared.Lookup.the-variants.{At, Missing, Broken}
 use Rattle.laws.specs.Bytes.{same-refl}
 use Rattle.chains.specs.Addresses.{Shape, absurd-bool, pick-both}
 use Rattle.chains.specs.Chain.{contents, setLast, length-contents, empty}
@@ -28,7 +25,7 @@ use Rattle.demands.specs.Ledger.{File, noFile, Block, closed, listing, r
 use Rattle.demands.specs.Relation.{tb, opens, writes, Writing, Keeps, Agrees}
 use Rattle.demands.specs.Quiet.{activity-is, nobody, writes-opens}
 use Rattle.demands.specs.Meets.{request, Sure}
-use Rattle.demands.specs.Searches.{lookedUp, find-is, vacancy-is, Sat, seek-found}
+use Rattle.demands.specs.Searches.{Sat, seek-found}
 use Rattle.demands.specs.Calls.{Offset, presettable-is}
 use Rattle.demands.specs.Opens.{legal-live}
 use Rattle.demands.specs.Tidy.{Tidy}
@@ -36,7 +33,7 @@ use Rattle.demands.specs.Changes.{Change, Changes, changes, rename-legal
 use Rattle.demands.specs.Survey.{ledgerOf}
 use Rattle.demands.specs.Service.{Service, flex, Reply, replied, Call, setting, extending, asking, Machine, Entry, answers, gave, next, entry, run, log}
 use Rattle.demands.specs.History.{then, history, concat, front, content, renames, nameAfter, nameThen, Survives, Only, sentBy, Reads}
-use Rattle.demands.specs.Demands.{Start, Asks, Idle, nameIn, Accepts, rest, ReadBack, ClosedWith, WrittenTo, Created, Demand2}
+use Rattle.demands.specs.Demands.{Start, lastOf, perOf, told, Asks, Idle, nameIn, rest, ledgerAfter, ReadBack, ClosedWith, WrittenTo, Created, Demand2}
 use Rattle.demands.specs.Runs.{Fine, Step, step, one as one-call, always, set-step, extend-step, start-shape, start-list, start-fine}
 use Rattle.demands.specs.Rests.{Rests, found, rests}
 use Rattle.demands.specs.Sent.{fate-of, concat-last, content-none, content-some, Wrote, written, beyond}
@@ -70,16 +67,6 @@ sectors-part n k r e h b = (omega arith, rest-is (k - 1) (omega arith))
     rest-is : (j : ℕ) → n ≡ 252 * j + r → (252 - n % 252) % 252 ≡ 252 - r
     rest-is j q = let m : n % 252 ≡ r = omega arith in rw m (omega arith)
 
--- ---- what the searches found, back in the ledger
-
-looked-none : (os : List ℕ) (x : Sought) → lookedUp os x ≡ Missing → x ≡ nowhere
-looked-none os nowhere e = refl
-looked-none os (slot s) e = absurd (let y : _≡_ {A = ℕ} 0 1 = cc in omega arith)
-
-looked-at : (os : List ℕ) (x : Sought) (o : ℕ) → lookedUp os x ≡ At o → (s : ℕ) × (x ≡ slot s) × (getD os s 0 ≡ o)
-looked-at os nowhere o e = absurd (let y : _≡_ {A = ℕ} 0 1 = cc in omega arith)
-looked-at os (slot s) o e = (s, refl, cc)
-
 -- nobody writes it: it can be read
 quiet-free : (bs : List Block) (s c : ℕ) → ((m : ℕ) → m < c → writes (getD bs m closed) ≢ suc s) → busy false s bs c ≡ false
 unfolding busy
@@ -94,9 +81,6 @@ quiet-free bs s (suc c) h = rw (go (getD bs c closed) (h c (omega arith))) (quie
 
 module _ (M S : ℕ) (z : Shape M S) (ds : List ℕ) (d : Listing S ds) where
   -- an idle block takes the functions that want one
-  idle-fits : (x : Machine) (a : Ledger) (g : Fine M S ds x a) (n : ℕ) → n < 8 → Idle x n → idle (activity (block a n)) ≡ true
-  idle-fits x a g n hn h = ap idle (sym (activity-is S (slotsOf ds) (x .tab) n (a .slots) (block a n) (g .agrees .keeps n hn))) ∙ h
-
   fits-idle : (k act : ℕ) → k ≡ 1 → idle act ≡ true → fits k act ≡ true
   unfolding fits
   fits-idle k act e h = rw e h
@@ -130,22 +114,26 @@ module _ (M S : ℕ) (z : Shape M S) (ds : List ℕ) (d : Listing S ds) where
       let en : Entry = record { n = n; ask = request (x .tab) n b; ans = answers flex x n b; back = gave flex x n b } in
       legal-then cs (next flex x (asking n b)) (then M S a en) (one-call M S z ds d x a g n b .0) (nameAfter nm en) (rename-ok x a g n b nm l (renames nm en) refl)
 
+  -- the history's ledger after an accepted call
+  ledger-after : (x : Machine) (a a′ : Ledger) (n b v : ℕ) → fate M S a n (request (x .tab) n b) ≡ granted v a′ → answers flex x n b ≡ 0 → ledgerAfter flex M S x a n b ≡ a′
+  unfolding history entry
+  ledger-after x a a′ n b v e q = rw (eq-eqb (answers flex x n b) 0 q, e) refl
+
   -- ---- a file at rest is opened for read and read
   module _ (x : Machine) (a : Ledger) (g : Fine M S ds x a) (s : ℕ) (f : File) (r : Rests a s f) (ok : legal (f .name) 0 ≡ true)
-      (m b : ℕ) (k : Asks x m 1) (i : Idle x m) (nm : nameIn x m ≡ f .name) where
+      (m b : ℕ) (k : Asks x m 1) (i : Idle a m) (nm : nameIn x m ≡ f .name) where
     abbrev q : Request
     q = request (x .tab) m b
 
     opened : fate M S a m q ≡ granted 0 (onBlock a m (reading s 0 0))
     unfolding performed served within openedToRead
     opened =
-        let st = idle-fits x a g m (k .block) i in
         let fd : fileNamed (part (x .tab) (320 * m + 4) 11) (a .slots) ≡ slot s = ap (λ (y : List ℕ). fileNamed y (a .slots)) nm ∙ found a (g .tidy) s f r in
         let lg : legal (part (x .tab) (320 * m + 4) 11) 0 ≡ true = ap (λ (y : List ℕ). legal y 0) nm ∙ ok in
-        fate-of M S a m q 1 (k .function) refl (k .drive) (fits-idle 1 (activity (block a m)) refl st)
+        fate-of M S a m q 1 (k .function) refl (k .drive) (fits-idle 1 (activity (block a m)) refl i)
         ∙ (rw (k .function, lg, fd, quiet-free (a .blocks) s 8 (r .quiet)) refl)
 
-    pub read-back : ReadBack flex x (concat (f .body)) m b
+    pub read-back : ReadBack flex M S x (concat (f .body)) m b
     read-back =
         let st = step M S z ds d x a g m b (k .block) in
         let a1 = onBlock a m (reading s 0 0) in
@@ -244,11 +232,12 @@ module _ (M S : ℕ) (z : Shape M S) (ds : List ℕ) (d : Listing S ds) where
     close-fate =
         fate-of M S a n qc 4 code refl (wr .drive) (ap (λ (y : Block). fits 4 (activity y)) (w .block)) ∙ (rw (code, w .block) refl)
 
-    pub closed-with : legal nm 0 ≡ true → ClosedWith flex x n nm sent b
+    pub closed-with : legal nm 0 ≡ true → ClosedWith flex M S x a n nm sent b
     closed-with ok =
         let st = step M S z ds d x a g n b hn in
         let sh = subst Shut (sym close-fate) shut-fate in
         let g1 : Fine M S ds (next flex x (asking n b)) (sh .a′) = subst (λ (φ : Fate). Fine M S ds (next flex x (asking n b)) (after a φ)) (sh .is) (st .fine) in
+        let al : ledgerAfter flex M S x a n b ≡ sh .a′ = ledger-after x a (sh .a′) n b 0 (sh .is) (st .ans ∙ ap reply (sh .is)) in
         record {
           closes = st .ans ∙ ap reply (sh .is);
           back = λ cs sv m c k i e.
@@ -258,25 +247,19 @@ module _ (M S : ℕ) (z : Shape M S) (ds : List ℕ) (d : Listing S ds) where
               let rs = rests M S z ds d cs x1 (sh .a′) g1 s (sh .f) (sh .at-rest) (subst (λ (y : List ℕ). Survives y (log flex x1 cs)) (sym (sh .name)) sv) in
               let rs2 : Rests (history M S (sh .a′) (log flex x1 cs)) s (withName (sh .f) nm′) =
               subst (λ (y : List ℕ). Rests (history M S (sh .a′) (log flex x1 cs)) s (withName (sh .f) y)) fn rs in
-              subst (λ (l : List ℕ). ReadBack flex (run flex x1 cs) l m c) (sh .bytes)
+              subst (λ (l : List ℕ). ReadBack flex M S (run flex x1 cs) l m c) (sh .bytes)
               (read-back (run flex x1 cs) (history M S (sh .a′) (log flex x1 cs)) (always M S z ds d cs x1 (sh .a′) g1 .0) s (withName (sh .f) nm′) rs2
-              (legal-then cs x1 (sh .a′) g1 nm ok) m c k i e);
+              (legal-then cs x1 (sh .a′) g1 nm ok) m c k (subst (λ (h : Ledger). Idle (history M S h (log flex x1 cs)) m) al i) e);
         }
 
   -- ---- a new file
-  module _ (x : Machine) (a : Ledger) (g : Fine M S ds x a) (n o b : ℕ) (k : Asks x n 2) (i : Idle x n) (ok : legal (nameIn x n) 0 ≡ true)
-      (none : find (x .img) S (nameIn x n) ≡ Missing) (room : vacancy (x .img) S ≡ At o) where
+  module _ (x : Machine) (a : Ledger) (g : Fine M S ds x a) (n s b : ℕ) (k : Asks x n 2) (i : Idle a n) (ok : legal (nameIn x n) 0 ≡ true)
+      (none : fileNamed (nameIn x n) (a .slots) ≡ nowhere) (room : vacantSlot (a .slots) ≡ slot s) where
     abbrev qo : Request
     qo = request (x .tab) n b
 
-    seat : (s : ℕ) × (vacantSlot (a .slots) ≡ slot s) × (getD (slotsOf ds) s 0 ≡ o)
-    seat = looked-at (slotsOf ds) (vacantSlot (a .slots)) o (sym (vacancy-is M S z ds d (x .img) (x .tab) a (g .agrees)) ∙ room)
-
-    nobody-has : fileNamed (nameIn x n) (a .slots) ≡ nowhere
-    nobody-has = looked-none (slotsOf ds) (fileNamed (nameIn x n) (a .slots)) (sym (find-is M S z ds d (x .img) (x .tab) a (g .agrees) (nameIn x n)) ∙ none)
-
-    abbrev s : ℕ
-    s = seat .0
+    abbrev o : ℕ
+    o = getD (slotsOf ds) s 0
 
     abbrev nf : File
     nf = newFile (nameIn x n) (qo .date)
@@ -291,11 +274,11 @@ module _ (M S : ℕ) (z : Shape M S) (ds : List ℕ) (d : Listing S ds) where
     made : fate M S a n qo ≡ granted 0 a1
     unfolding performed served within openedToWrite
     made =
-        fate-of M S a n qo 2 (k .function) refl (k .drive) (fits-two (activity (block a n)) (idle-fits x a g n (k .block) i))
-        ∙ (rw (k .function, ok, nobody-has, seat .1) refl)
+        fate-of M S a n qo 2 (k .function) refl (k .drive) (fits-two (activity (block a n)) i)
+        ∙ (rw (k .function, ok, none, room) refl)
 
     low : s < length (a .slots)
-    low = seek-found (λ y. Rattle.rules.specs.Directory.vacant y 0) (a .slots) s (seat .1) .low
+    low = seek-found (λ y. Rattle.rules.specs.Directory.vacant y 0) (a .slots) s room .low
 
     starts : Wrote a1 n s (nameIn x n) []
     unfolding content
@@ -310,28 +293,29 @@ module _ (M S : ℕ) (z : Shape M S) (ds : List ℕ) (d : Listing S ds) where
           part = λ y. absurd (omega arith);
         }
 
-    pub created : Created flex x n o b
+    pub created : Created flex M S x a n o b
     created =
         let st = step M S z ds d x a g n b (k .block) in
         let x1 = next flex x (asking n b) in
         let g1 : Fine M S ds x1 a1 = subst (λ (φ : Fate). Fine M S ds x1 (after a φ)) made (st .fine) in
+        let al : ledgerAfter flex M S x a n b ≡ a1 = ledger-after x a a1 n b 0 made (st .ans ∙ ap reply made) in
         record {
           opens = st .ans ∙ ap reply made;
           writes = λ cs op.
               let wn = written M S z ds d cs x1 a1 g1 n s (nameIn x n) [] (k .block) starts op in
               let g2 = always M S z ds d cs x1 a1 g1 .0 in
-              record {
+              subst (λ (h : Ledger). WrittenTo flex M S x1 h n o (nameIn x n) cs) (sym al) (record {
                 accepts = wn .1;
                 size = size-is (run flex x1 cs) (history M S a1 (log flex x1 cs)) g2 (sentBy n (log flex x1 cs)) (wn .0);
                 close = λ c code some. closed-with (run flex x1 cs) (history M S a1 (log flex x1 cs)) g2 n s (nameIn x n) (sentBy n (log flex x1 cs)) (k .block) (wn .0) c code some ok;
-              };
+              });
         }
       where
         size-is : (y : Machine) (h : Ledger) → Fine M S ds y h → (sent : List ℕ) → Wrote h n s (nameIn x n) sent → sizeAt (y .img) o ≡ (length sent + 251) / 252
         size-is y h g2 sent w =
             let wr : Writing S (slotsOf ds) (y .tab) n (file h s) s (w .left) = subst (λ (v : Block). Keeps S (slotsOf ds) (y .tab) n (h .slots) v) (w .block) (g2 .agrees .keeps n (k .block)) in
             let c = g2 .agrees .holds s (wr .slot) .chain (wr .live) in
-            let e : wordAt (y .img) (o + 17) ≡ length ((file h s) .secs) = ap (wordAt (y .img)) (omega (arith, seat .2)) ∙ c .size in
+            let e : wordAt (y .img) (o + 17) ≡ length ((file h s) .secs) = ap (wordAt (y .img)) (omega arith) ∙ c .size in
             e ∙ sym (count wr (ℕ-discrete (length (w .left)) 0))
           where
             count : Writing S (slotsOf ds) (y .tab) n (file h s) s (w .left) → Dec (length (w .left) ≡ 0) → (length sent + 251) / 252 ≡ length ((file h s) .secs)
@@ -341,29 +325,24 @@ module _ (M S : ℕ) (z : Shape M S) (ds : List ℕ) (d : Listing S ds) where
 -- ---- the demand
 
 module _ (x : Machine) (st : Start x) (cs : List Call) where
-  abbrev M : ℕ
-  M = lastTrack (x .img)
-
-  abbrev S : ℕ
-  S = perTrack (x .img)
-
   abbrev ds : List ℕ
-  ds = directory (x .img) S
+  ds = directory (x .img) (perOf x)
 
   abbrev x0 : Machine
   x0 = run flex x cs
 
   abbrev a0 : Ledger
-  a0 = history M S (ledgerOf S (x .img)) (log flex x cs)
+  a0 = told flex x cs
 
-  fine : Fine M S ds x0 a0
-  fine = always M S (start-shape x st) ds (start-list x st) cs x (ledgerOf S (x .img)) (start-fine x st) .0
+  fine : Fine (lastOf x) (perOf x) ds x0 a0
+  fine = always (lastOf x) (perOf x) (start-shape x st) ds (start-list x st) cs x (ledgerOf (perOf x) (x .img)) (start-fine x st) .0
 
-  preset-done : (n i v : ℕ) → n < 8 → presettable i ≡ true → Idle x0 n → flex .preset (x0 .tab) n i v ≡ replied 0 (over (x0 .tab) (320 * n + i) (one v))
+  preset-done : (n i v : ℕ) → n < 8 → presettable i ≡ true → Idle a0 n → flex .preset (x0 .tab) n i v ≡ replied 0 (over (x0 .tab) (320 * n + i) (one v))
   unfolding Rattle.rules.specs.Block.preset presetIn
   preset-done n i v hn p h =
       let q = presettable-is i p in
-      rw (eq-eqb (length (x0 .tab)) 2560 (fine .agrees .tlen), lt-ltb n 8 hn, ne-eqb i 0 (omega (arith, q .low)), p, h) refl
+      let act : idle (getD (x0 .tab) (320 * n + 2) 0) ≡ true = ap idle (activity-is (perOf x) (slotsOf ds) (x0 .tab) n (a0 .slots) (block a0 n) (fine .agrees .keeps n hn)) ∙ h in
+      rw (eq-eqb (length (x0 .tab)) 2560 (fine .agrees .tlen), lt-ltb n 8 hn, ne-eqb i 0 (omega (arith, q .low)), p, act) refl
 
   function-done : (n v : ℕ) → n < 8 → flex .preset (x0 .tab) n 0 v ≡ replied 0 (over (x0 .tab) (320 * n + 0) (one v))
   unfolding Rattle.rules.specs.Block.preset presetIn
@@ -373,7 +352,6 @@ pub demand2 : Demand2 flex
 demand2 = record {
   presets = λ x st cs n i v hn p h. preset-done x st cs n i v hn p h;
   function = λ x st cs n v hn. function-done x st cs n v hn;
-  creates = λ x st cs n o b k i ok none room.
-      created (lastTrack (x .img)) (perTrack (x .img)) (start-shape x st) (directory (x .img) (perTrack (x .img))) (start-list x st)
-      (run flex x cs) (history (lastTrack (x .img)) (perTrack (x .img)) (ledgerOf (perTrack (x .img)) (x .img)) (log flex x cs)) (fine x st cs) n o b k i ok none room;
+  creates = λ x st cs n s b k i ok none room.
+      created (lastOf x) (perOf x) (start-shape x st) (directory (x .img) (perOf x)) (start-list x st) (run flex x cs) (told flex x cs) (fine x st cs) n s b k i ok none room;
 }

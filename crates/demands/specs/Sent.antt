@@ -11,7 +11,6 @@ use lib.Seq.{getD-set-same, getD-set-other}
 use lib.Dec.{eqb, ltb}
 use borrow.Author.Tests.{eq-eqb, ne-eqb, eqb-true, eqb-false, lt-ltb, le-ltb}
 use Rattle.rules.specs.Bytes.{pick, wordAt, zeros, within}
-use Rattle.rules.specs.Image.{freeCount}
 use Rattle.rules.specs.Directory.{live, slotsOf}
 use Rattle.rules.specs.Call.{served, fits}
 use Rattle.rules.specs.Block.{idle}
@@ -243,7 +242,7 @@ module _ (M S : ℕ) (z : Shape M S) (ds : List ℕ) (d : Listing S ds) where
 
     module _ (n s : ℕ) (nm sent : List ℕ) (hn : n < 8) (w : Wrote a n s nm sent) where
       abbrev Now : Type 0
-      Now = Wrote (then M S a e) n s nm (sent ++ ownByte n e) × (m ≡ n → 1 ≤ freeCount (x .img) → answers flex x m b ≡ 0)
+      Now = Wrote (then M S a e) n s nm (sent ++ ownByte n e) × (m ≡ n → 1 ≤ length (a .free) → answers flex x m b ≡ 0)
 
       kept-by : (a′ : Ledger) → block a′ n ≡ block a n → file a′ s ≡ file a s → Wrote a′ n s nm (sent ++ [])
       kept-by a′ p k =
@@ -285,11 +284,11 @@ module _ (M S : ℕ) (z : Shape M S) (ds : List ℕ) (d : Listing S ds) where
           rw (eq-eqb m n q) (by (fate M S a m (request (x .tab) m b)) (st .ans) y q)
         where
           by : (φ : Fate) → answers flex x m b ≡ reply φ → Wrought a m s nm sent b φ → m ≡ n
-              → Wrote (pick (eqb (answers flex x m b) 0) (after a φ) a) n s nm (sent ++ pick (eqb (answers flex x m b) 0) (b ∷ []) []) × (m ≡ n → 1 ≤ freeCount (x .img) → answers flex x m b ≡ 0)
+              → Wrote (pick (eqb (answers flex x m b) 0) (after a φ) a) n s nm (sent ++ pick (eqb (answers flex x m b) 0) (b ∷ []) []) × (m ≡ n → 1 ≤ length (a .free) → answers flex x m b ≡ 0)
           by φ an (took a′ v) q = (rw (eq-eqb (answers flex x m b) 0 an) (subst (λ (k : ℕ). Wrote a′ k s nm (sent ++ b ∷ [])) q v), λ r f. an)
           by φ an (full v) q = (
             rw (ne-eqb (answers flex x m b) 0 (omega (arith, an))) (kept-by a refl refl),
-            λ r f. absurd (omega (arith, f, g .agrees .free .size, ap length v)),
+            λ r f. absurd (omega (arith, f, ap length v)),
           )
 
       pub wrote-one : (m ≡ n → (request (x .tab) m b) .code ≡ 0) → Now
@@ -301,7 +300,7 @@ module _ (M S : ℕ) (z : Shape M S) (ds : List ℕ) (d : Listing S ds) where
 
   -- WRITING: whatever else is called, the file has what was sent to it, and while a sector is free every byte is accepted
   pub written : (cs : List Call) (x : Machine) (a : Ledger) → Fine M S ds x a → (n s : ℕ) (nm sent : List ℕ) → n < 8 → Wrote a n s nm sent → Only n 0 (log flex x cs)
-      → Wrote (history M S a (log flex x cs)) n s nm (sent ++ sentBy n (log flex x cs)) × Accepts flex n x cs
+      → Wrote (history M S a (log flex x cs)) n s nm (sent ++ sentBy n (log flex x cs)) × Accepts flex M S n x a cs
   unfolding log history entry sentBy
   written [] x a g n s nm sent hn w op = (subst (λ (l : List ℕ). Wrote a n s nm l) (sym (append-nil sent)) w, tt)
   written (setting m i v ∷ cs) x a g n s nm sent hn w op = written cs (next flex x (setting m i v)) a (set-step M S z ds d x a g m i v) n s nm sent hn w op

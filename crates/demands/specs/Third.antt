@@ -28,7 +28,7 @@ use Rattle.demands.specs.Searches.{live-at, uses-is}
 use Rattle.demands.specs.Survey.{ledgerOf, ledgerNumbers, ledgerOwners, sectorsAt, fileAt, filesAt, files-at, listed-is, owners-is, file-is, ledger-free, ledger-slots, sane-back}
 use Rattle.demands.specs.Service.{Service, flex, Call, Machine, Entry, run, log}
 use Rattle.demands.specs.History.{history, Told, content, Shown, unfinished, pending, shownFrom, shown, buffered, filesOn, Unnamed}
-use Rattle.demands.specs.Demands.{Start, dataSectors, Sound, told, Demand3}
+use Rattle.demands.specs.Demands.{Start, dataSectors, Sound, Demand3}
 use Rattle.demands.specs.Runs.{Fine, always, start-sane, start-shape, start-shaped, start-list, start-fine}
 use Rattle.demands.specs.Rests.{Rests, rests-same}
 
