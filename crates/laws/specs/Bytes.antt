@@ -13,6 +13,16 @@ use mathlib.Core.Logic.{_≢_}
 use Rattle.rules.specs.Transfer.{fresh}
 use Rattle.rules.specs.Bytes.{pick, byteAt, wordAt, part, over, one, two, six, zeros, same}
 
+-- past the end a byte reads as 0
+pub byte-out : (m : List ℕ) (at : ℕ) → length m ≤ at → 0 ≡ getD m at 0
+byte-out m at h = sym (List·getD-eq-default m 0 h)
+
+pub byte-out-from : (m : List ℕ) (at i : ℕ) → length m ≤ at → 0 ≡ getD m (at + i) 0
+byte-out-from m at i h = byte-out m (at + i) (omega arith)
+
+pub byte-out-past : (m : List ℕ) (at i : ℕ) → length m - at ≤ i → 0 ≡ getD m (at + i) 0
+byte-out-past m at i h = byte-out m (at + i) (omega arith)
+
 -- ---- numbers of two bytes
 
 pub word-out : (m : List ℕ) (at : ℕ) → length m ≤ at → wordAt m at ≡ 0
@@ -204,6 +214,19 @@ over-full m vs d at i e h l = rest (take-append-drop i vs) (length-take-le i vs 
 pub over-all : (m vs d : List ℕ) (at i : ℕ) → d ≡ over m at (take i vs) → length vs ≤ i → d ≡ over m at vs
 over-all m vs d at i e h = e ∙ ap (over m at) (take-all i vs h)
 
+-- the same where vs is a part of a list
+module _ (m src d : List ℕ) (at from n i : ℕ) (e : d ≡ over m at (take i (part src from n))) where
+  pub over-part-more : (v : ℕ) → i < n → v ≡ getD src (from + i) 0 → set d (at + i) v ≡ over m at (take (i + 1) (part src from n))
+  over-part-more v h k =
+      ap (λ (x : ℕ). set d (at + i) x) (k ∙ sym (part-at src from n i h))
+      ∙ over-more m (part src from n) d at i e (rw length-part h)
+
+  pub over-part-full : i < n → length d ≡ length m → length d - at ≤ i → d ≡ over m at (part src from n)
+  over-part-full h l k = over-full m (part src from n) d at i e (rw length-part h) (omega arith)
+
+  pub over-part-all : n ≤ i → d ≡ over m at (part src from n)
+  over-part-all h = over-all m (part src from n) d at i e (rw length-part h)
+
 -- ---- two runs of bytes compared, turn by turn
 
 module _ (xs ys : List ℕ) (i j n : ℕ) {w : Bool} {a b : ℕ} (p : a ≡ getD xs i 0) (q : b ≡ getD ys j 0) (h : 0 < n) (v : w ≡ same (part xs i n) (part ys j n)) where
@@ -221,6 +244,17 @@ same-end xs ys i j n v h = rw (v, part-none xs i n h, part-none ys j n h) refl
 
 never : false ≡ true → ⊥
 never h = let z : _≡_ {A = ℕ} 0 1 = ap (λ (b : Bool). pick b 1 0) h in omega arith
+
+-- a part past the end is zeros
+pub part-past : (m : List ℕ) (at n : ℕ) → length m ≤ at → part m at n ≡ zeros n
+part-past m at n h =
+    part-is m at n (zeros n) (length-zeros n) (λ i b. sym (byte-out-from m at i h) ∙ sym (zeros-at n i))
+
+pub over-whole : (m d src : List ℕ) (at : ℕ) → d ≡ over m at (part src 0 (length src)) → d ≡ over m at src
+over-whole m d src at e = e ∙ ap (over m at) (part-all src (length src) refl)
+
+pub over-past : (m d src : List ℕ) (at from n : ℕ) → length src ≤ from → d ≡ over m at (part src from n) → d ≡ over m at (zeros n)
+over-past m d src at from n h e = e ∙ ap (over m at) (part-past src from n h)
 
 -- lists that are the same are equal, and a list is the same as itself
 pub same-refl : (xs : List ℕ) → same xs xs ≡ true

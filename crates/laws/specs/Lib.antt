@@ -1,6 +1,9 @@
 -- Laws of the definitions of `rules`, which proofs cite.
 pub mod Tests
+pub mod Ranges
 pub mod Bytes
+pub mod Single
+pub mod Walk
 pub mod Each
 pub mod Small
 pub mod Stores
@@ -12,3 +15,4 @@ pub mod Effects
 pub mod Counting
 pub mod Surveys
 pub mod Texts
+pub mod Settled

@@ -1,0 +1,17 @@
+-- No second outcome fits the promise of a public function of this crate.
+use mathlib.Core.Bool.{Bool}
+use mathlib.Core.List.{List, []}
+use Prim.Native.Nat.{ℕ}
+use Rattle.rules.specs.Outcome.{left}
+use Rattle.rules.specs.Directory.{placeOf}
+use Rattle.rules.specs.Block.{blockAt, inUse, preset, extension}
+use Rattle.laws.specs.Single.{Single, single, SingleOut, single-out}
+
+pub in-use-single : (readers : Bool) (tab : List ℕ) (slot : ℕ) → Single (inUse readers tab (placeOf slot))
+in-use-single readers tab slot = single (inUse readers tab (placeOf slot))
+
+pub preset-single : (tab : List ℕ) (n i v : ℕ) → SingleOut (left [] tab (blockAt n) (preset tab n i v))
+preset-single tab n i v = single-out (left [] tab (blockAt n) (preset tab n i v))
+
+pub default-extension-single : (tab : List ℕ) (n code : ℕ) → SingleOut (left [] tab (blockAt n) (extension tab n code))
+default-extension-single tab n code = single-out (left [] tab (blockAt n) (extension tab n code))

@@ -1,0 +1,72 @@
+-- Products of bytes fit; the shape from its numbers; a link that may be absent.
+use mathlib.Core.Path.{_≡_, refl, ap, _∙_}
+use mathlib.Core.Bool.{Bool, true, false}
+use mathlib.Core.List.{List}
+use Prim.Native.Nat.{ℕ, _+_, _*_, _≤_, _<_}
+use native.Mathlib.Nat.{mul-le-mul}
+use native.Mathlib.Omega.{arith}
+use lib.ListN.{length, getD}
+use lib.Dec.{eqb}
+use borrow.Author.Tests.{le-leb, lt-leb}
+use Rattle.rules.specs.Bytes.{pick, within, over, two}
+use Rattle.rules.specs.Stores.{stored}
+use Rattle.rules.specs.Image.{shapeRight}
+use Rattle.rules.specs.Transfer.{linked}
+use Rattle.disk.specs.Loaded.{isShape, shapeOf}
+use Rattle.disk.specs.declared.Shape.{Shape}
+use Rattle.disk.specs.declared.Shaped.{Shaped}
+use Rattle.disk.specs.declared.Shaped.the-variants.{Right, Wrong}
+
+pub product : (x y : ℕ) → x ≤ 256 → y ≤ 255 → x * y ≤ 65280
+product x y h k = mul-le-mul h k
+
+-- the shape's tests in their order: each limit that is broken, then the length
+pub too-short : (n M S : ℕ) → n < 552 → false ≡ isShape n M S
+unfolding isShape
+too-short n M S h = rw (lt-leb 552 n h) refl
+
+module _ (n M S : ℕ) (a : 552 ≤ n) where
+  pub no-track : M < 1 → false ≡ isShape n M S
+  unfolding isShape within
+  no-track h = rw (le-leb 552 n a, lt-leb 1 M h) refl
+
+  module _ (b : 1 ≤ M) where
+    pub many-tracks : 79 < M → false ≡ isShape n M S
+    unfolding isShape within
+    many-tracks h = rw (le-leb 552 n a, le-leb 1 M b, lt-leb M 79 h) refl
+
+    module _ (d : M ≤ 79) where
+      pub few-sectors : S < 5 → false ≡ isShape n M S
+      unfolding isShape within
+      few-sectors h = rw (le-leb 552 n a, le-leb 1 M b, le-leb M 79 d, lt-leb 5 S h) refl
+
+      module _ (e : 5 ≤ S) where
+        pub many-sectors : 36 < S → false ≡ isShape n M S
+        unfolding isShape within
+        many-sectors h = rw (le-leb 552 n a, le-leb 1 M b, le-leb M 79 d, le-leb 5 S e, lt-leb S 36 h) refl
+
+        pub by-length : {k : ℕ} → S ≤ 36 → k ≡ (M + 1) * S → eqb n (k * 256) ≡ isShape n M S
+        unfolding isShape within
+        by-length f h = rw (le-leb 552 n a, le-leb 1 M b, le-leb M 79 d, le-leb 5 S e, le-leb S 36 f, h) refl
+
+module _ (img : List ℕ) {r : Bool} {M S : ℕ} (e : r ≡ isShape (length img) M S) (m : M ≡ getD img 550 0) (s : S ≡ getD img 551 0) where
+  is-right : r ≡ shapeRight img
+  unfolding isShape shapeRight
+  is-right = rw (e, m, s) refl
+
+  pub shape-right : r ≡ true → Right (record { last = M; per = S }) ≡ shapeOf img
+  unfolding shapeOf
+  shape-right k = rw (← is-right, k, m, s) refl
+
+  pub shape-wrong : r ≡ false → Wrong ≡ shapeOf img
+  unfolding shapeOf
+  shape-wrong k = rw (← is-right, k) refl
+
+module _ (img : List ℕ) (none : Bool) (k a : ℕ) where
+  pub link-none : none ≡ true → img ≡ stored img (linked none k a)
+  unfolding linked
+  link-none h = rw h refl
+
+  pub link-some : {d : List ℕ} → none ≡ false → d ≡ over img (256 * k) (two a) → d ≡ stored img (linked none k a)
+  unfolding linked
+  link-some h e = rw h (e ∙ ap (λ (n : ℕ). over img n (two a)) (omega arith))

@@ -1,0 +1,3 @@
+-- What the code loads from an image, as structs, and what is proved of the promises of public functions.
+pub mod Loaded
+pub mod Promises

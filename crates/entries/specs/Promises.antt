@@ -1,0 +1,19 @@
+-- No second outcome fits the promise of a public function of this crate.
+use mathlib.Core.List.{List}
+use Prim.Native.Nat.{ℕ}
+use Rattle.rules.specs.Bytes.{part, over}
+use Rattle.laws.specs.Single.{Single, single}
+use Rattle.entries.specs.Entries.{entryOf, newOf, bytesOf}
+use Rattle.entries.specs.declared.Entry.{Entry}
+
+pub name-at-single : (m : List ℕ) (at : ℕ) → Single (part m at 11)
+name-at-single m at = single (part m at 11)
+
+pub entry-at-single : (img : List ℕ) (slot : ℕ) → Single (entryOf img slot)
+entry-at-single img slot = single (entryOf img slot)
+
+pub new-entry-single : (tab : List ℕ) (f : ℕ) → Single (newOf tab f)
+new-entry-single tab f = single (newOf tab f)
+
+pub put-entry-single : (m : List ℕ) (at : ℕ) (e : Entry) → Single (over m at (bytesOf e))
+put-entry-single m at e = single (over m at (bytesOf e))

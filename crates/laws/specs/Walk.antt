@@ -1,0 +1,63 @@
+-- The directory's walk and scan, a turn at a time: what one more sector, or one more slot, makes of them.
+use mathlib.Core.Path.{_≡_, refl, ap}
+use mathlib.Core.Bool.{Bool, true, false}
+use mathlib.Core.List.{List, [], _∷_, _++_}
+use Prim.Native.Nat.{ℕ, zero, suc, _+_, _-_, _≤_, _<_}
+use native.Mathlib.Omega.{arith}
+use Rattle.rules.specs.Directory.{nextOf, onNext, ends, sectorsFrom, slotsAt, onSeen, scan}
+use Rattle.rules.specs.declared.Seen.{Seen}
+use Rattle.rules.specs.declared.Seen.the-variants.{Hit, Stop, Pass}
+use Rattle.rules.specs.declared.Found.{Found}
+use Rattle.rules.specs.declared.Found.the-variants.{Slot, Stopped, Further}
+
+less : (n : ℕ) → n ≡ suc n - 1
+less n = omega arith
+
+-- "within S − 4 sectors": one sector more
+pub ends-more : (img : List ℕ) (S n k : ℕ) → 0 < n → ends img S n k ≡ onNext (nextOf img S k) true false (λ j. ends img S (n - 1) j)
+unfolding ends
+ends-more img S zero k h = absurd (omega arith)
+ends-more img S (suc n) k h = ap (λ (m : ℕ). onNext (nextOf img S k) true false (λ j. ends img S m j)) (less n)
+
+pub ends-none : (img : List ℕ) (S n k : ℕ) → n ≤ 0 → ends img S n k ≡ false
+unfolding ends
+ends-none img S zero k h = refl
+ends-none img S (suc n) k h = absurd (omega arith)
+
+pub sectors-more : (img : List ℕ) (S n k : ℕ) → 0 < n → sectorsFrom img S n k ≡ k ∷ onNext (nextOf img S k) [] [] (λ j. sectorsFrom img S (n - 1) j)
+unfolding sectorsFrom
+sectors-more img S zero k h = absurd (omega arith)
+sectors-more img S (suc n) k h = ap (λ (m : ℕ). k ∷ onNext (nextOf img S k) [] [] (λ j. sectorsFrom img S m j)) (less n)
+
+pub sectors-none : (img : List ℕ) (S n k : ℕ) → n ≤ 0 → sectorsFrom img S n k ≡ []
+unfolding sectorsFrom
+sectors-none img S zero k h = refl
+sectors-none img S (suc n) k h = absurd (omega arith)
+
+-- one slot more
+pub slots-more : (at n : ℕ) → 0 < n → slotsAt at n ≡ at ∷ slotsAt (at + 24) (n - 1)
+unfolding slotsAt
+slots-more at zero h = absurd (omega arith)
+slots-more at (suc n) h = ap (λ (m : ℕ). at ∷ slotsAt (at + 24) m) (less n)
+
+pub slots-none : (at n : ℕ) → n ≤ 0 → slotsAt at n ≡ []
+unfolding slotsAt
+slots-none at zero h = refl
+slots-none at (suc n) h = absurd (omega arith)
+
+-- a scan goes on behind slots where it neither hit nor stopped
+abbrev pub onFound : Found → Found → Found
+onFound (Slot o) next = Slot o
+onFound Stopped next = Stopped
+onFound Further next = next
+
+pub scan-append : (look : ℕ → Seen) (xs ys : List ℕ) → scan look (xs ++ ys) ≡ onFound (scan look xs) (scan look ys)
+unfolding scan
+scan-append look [] ys = refl
+scan-append look (x ∷ xs) ys = go (scan-append look xs ys) (look x)
+  where
+    go : scan look (xs ++ ys) ≡ onFound (scan look xs) (scan look ys) → (a : Seen)
+        → onSeen a (Slot x) Stopped (scan look (xs ++ ys)) ≡ onFound (onSeen a (Slot x) Stopped (scan look xs)) (scan look ys)
+    go ih Hit = refl
+    go ih Stop = refl
+    go ih Pass = ih
