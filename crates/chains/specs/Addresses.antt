@@ -13,6 +13,8 @@ use borrow.Author.Tests.{le-leb, lt-leb, lt-ltb, le-ltb, eq-eqb, ne-eqb, leb-tru
 use Rattle.rules.specs.Bytes.{pick, within, wordAt, byteAt}
 use Rattle.rules.specs.Image.{index, isData, shapeRight, lastTrack, perTrack}
 use Rattle.rules.specs.Directory.{isDirectory}
+use Rattle.laws.specs.Tests.{both, within-is, within-true}
+use Rattle.laws.specs.Addresses.{Shape, Shaped, shape-true}
 
 -- ---- tests
 
@@ -21,22 +23,6 @@ clash p q = let e : true ≡ false = sym p ∙ q in let y : _≡_ {A = ℕ} 0 1 
 
 pub absurd-bool : {A : Type 0} {b : Bool} → b ≡ true → b ≡ false → A
 absurd-bool p q = absurd (clash p q)
-
-pub pick-both : (b c : Bool) → pick b c false ≡ true → (b ≡ true) × (c ≡ true)
-pick-both true c h = (refl, h)
-pick-both false c h = absurd-bool h refl
-
-pub pick-not : (b c : Bool) → pick b false c ≡ true → (b ≡ false) × (c ≡ true)
-pick-not true c h = absurd-bool h refl
-pick-not false c h = (refl, h)
-
-pub within-is : (lo hi x : ℕ) → lo ≤ x → x ≤ hi → within lo hi x ≡ true
-unfolding within
-within-is lo hi x a b = rw (le-leb lo x a, le-leb x hi b) refl
-
-pub within-true : (lo hi x : ℕ) → within lo hi x ≡ true → (lo ≤ x) × (x ≤ hi)
-unfolding within
-within-true lo hi x h = let p = pick-both (leb lo x) (leb x hi) h in (leb-true lo x (p .0), leb-true x hi (p .1))
 
 -- ---- addresses
 
@@ -53,17 +39,10 @@ unfolding adr
 adr-is S zero h = absurd (omega arith)
 adr-is S (suc y) h = refl
 
--- "1 ≤ M ≤ 79 and 5 ≤ S ≤ 36"
-pub record Shape (M S : ℕ) : Type 0 where
-  pub m1 : 1 ≤ M
-  pub m2 : M ≤ 79
-  pub s1 : 5 ≤ S
-  pub s2 : S ≤ 36
-
 -- a sector of the image other than the first
 module _ (M S : ℕ) (z : Shape M S) (x : ℕ) (lo : 1 ≤ x) (hi : x < (M + 1) * S) where
   sp : 1 ≤ S
-  sp = omega (arith, z .s1)
+  sp = omega (arith, z .sectors)
 
   r : x % S < S
   r = mod-lt x sp
@@ -95,7 +74,7 @@ module _ (M S : ℕ) (z : Shape M S) (x : ℕ) (lo : 1 ≤ x) (hi : x < (M + 1) 
   unfolding isData
   data-adr h =
       let t1 : 1 ≤ x / S = go (x / S) refl in
-      rw (high, low, within-is 1 M (x / S) t1 (omega (arith, u)), within-is 1 S (x % S + 1) (omega arith) (omega (arith, r))) refl
+      rw (high, low, within-true 1 M (x / S) t1 (omega (arith, u)), within-true 1 S (x % S + 1) (omega arith) (omega (arith, r))) refl
     where
       go : (q : ℕ) → x / S ≡ q → 1 ≤ q
       go zero e = absurd (omega (arith, div-add-mod' x S, ap (λ (n : ℕ). n * S) e, mod-lt x sp))
@@ -108,7 +87,7 @@ module _ (M S : ℕ) (z : Shape M S) (x : ℕ) (lo : 1 ≤ x) (hi : x < (M + 1) 
       let d : x / S ≡ 0 = go (x / S) refl in
       let m : x % S ≡ x = omega (arith, div-add-mod' x S, ap (λ (n : ℕ). n * S) d) in
       let e : adr S x ≡ x + 1 = omega (arith, is, d, m) in
-      (e, rw (high, low, d, m, within-is 5 S (x + 1) (omega arith) (omega arith)) refl)
+      (e, rw (high, low, d, m, within-true 5 S (x + 1) (omega arith) (omega arith)) refl)
     where
       go : (q : ℕ) → x / S ≡ q → q ≡ 0
       go zero e = refl
@@ -118,14 +97,14 @@ module _ (M S : ℕ) (z : Shape M S) (x : ℕ) (lo : 1 ≤ x) (hi : x < (M + 1) 
 pub data-index : (M S : ℕ) → Shape M S → (a : ℕ) → a < 65536 → isData M S a ≡ true → (adr S (index S a) ≡ a) × (S ≤ index S a) × (index S a < (M + 1) * S)
 unfolding isData index
 data-index M S z a h d =
-    let p = pick-both (within 1 M (a / 256 % 256)) (within 1 S (a % 256)) d in
-    let t = within-true 1 M (a / 256 % 256) (p .0) in
-    let s = within-true 1 S (a % 256) (p .1) in
+    let p = both (within 1 M (a / 256 % 256)) (within 1 S (a % 256)) d in
+    let t = within-is 1 M (a / 256 % 256) (p .0) in
+    let s = within-is 1 S (a % 256) (p .1) in
     go (a / 256 % 256) (a % 256) (omega arith) (t .0) (t .1) (s .0) (s .1)
   where
     go : (t s : ℕ) → a ≡ t * 256 + s → 1 ≤ t → t ≤ M → 1 ≤ s → s ≤ S → (adr S (t * S + s - 1) ≡ a) × (S ≤ t * S + s - 1) × (t * S + s - 1 < (M + 1) * S)
     go t s e t1 t2 s1 s2 =
-        let s5 = z .s1 in
+        let s5 = z .sectors in
         let l : 1 * S ≤ t * S = mul-le-mul-right S (omega arith) in
         let q : t * S + s - 1 ≡ t * S + (s - 1) = omega arith in
         let u : (t * S + s - 1) / S ≡ t = ap (λ (x : ℕ). x / S) q ∙ digits-div t (omega arith) in
@@ -137,35 +116,22 @@ data-index M S z a h d =
 pub directory-index : (S : ℕ) → 5 ≤ S → (a : ℕ) → a < 65536 → isDirectory S a ≡ true → (index S a + 1 ≡ a) × (4 ≤ index S a) × (index S a < S)
 unfolding isDirectory index
 directory-index S h a b d =
-    let p = pick-both (eqb (a / 256 % 256) 0) (within 5 S (a % 256)) d in
+    let p = both (eqb (a / 256 % 256) 0) (within 5 S (a % 256)) d in
     let t = eqb-true (a / 256 % 256) 0 (p .0) in
-    let s = within-true 5 S (a % 256) (p .1) in
+    let s = within-is 5 S (a % 256) (p .1) in
     rw t (omega arith)
 
 -- ---- the shape
 
-pub record Shaped (M S : ℕ) (img : List ℕ) : Type 0 where
+pub record Sized (M S : ℕ) (img : List ℕ) : Type 0 where
   pub last : lastTrack img ≡ M
   pub per : perTrack img ≡ S
   pub size : length img ≡ 256 * ((M + 1) * S)
 
 -- sixteen sectors at the least: boot, information, and the directory on track 0
 pub room-for : (M S : ℕ) → Shape M S → 2560 ≤ 256 * ((M + 1) * S)
-room-for M S z = omega (arith, mul-le-mul-right S (z .m1), z .s1)
+room-for M S z = omega (arith, mul-le-mul-right S (z .tracks), z .sectors)
 
-pub shape-right : (M S : ℕ) → Shape M S → (img : List ℕ) → Shaped M S img → shapeRight img ≡ true
-unfolding shapeRight
+pub shape-right : (M S : ℕ) → Shape M S → (img : List ℕ) → Sized M S img → shapeRight img ≡ true
 shape-right M S z img h =
-    rw (h .last, h .per, h .size, le-leb 552 (256 * ((M + 1) * S)) (omega (arith, room-for M S z)), within-is 1 79 M (z .m1) (z .m2), within-is 5 36 S (z .s1) (z .s2))
-    (eq-eqb (256 * ((M + 1) * S)) ((M + 1) * S * 256) (omega arith))
-
-pub shaped : (img : List ℕ) → shapeRight img ≡ true → Shape (lastTrack img) (perTrack img) × Shaped (lastTrack img) (perTrack img) img
-unfolding shapeRight
-shaped img h =
-    let p = pick-both (leb 552 (length img)) _ h in
-    let q = pick-both (within 1 79 (lastTrack img)) _ (p .1) in
-    let t = pick-both (within 5 36 (perTrack img)) _ (q .1) in
-    let a = within-true 1 79 (lastTrack img) (q .0) in
-    let b = within-true 5 36 (perTrack img) (t .0) in
-    let c = eqb-true (length img) _ (t .1) in
-    (record { m1 = a .0; m2 = a .1; s1 = b .0; s2 = b .1 }, record { last = refl; per = refl; size = omega (arith, c) })
+    shape-true img (record { shape = rw (h .last, h .per) z; long = rw (h .last, h .per) (h .size ∙ omega arith) })

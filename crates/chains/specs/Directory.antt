@@ -20,7 +20,9 @@ use Rattle.rules.specs.declared.Lookup.the-variants.{At, Missing, Broken}
 use Rattle.laws.specs.Bytes.{same-refl, same-eq, part-at}
 use Rattle.laws.specs.Tests.{pick-cases}
 use Rattle.chains.specs.Tally.{tally, tally-head, eq1, eq1-same, eq1-ne}
-use Rattle.chains.specs.Addresses.{Shape, absurd-bool, pick-both, within-is, adr, adr-zero, adr-is, adr-pos, index-adr, directory-adr, directory-index}
+use Rattle.laws.specs.Tests.{both, within-true}
+use Rattle.laws.specs.Addresses.{Shape}
+use Rattle.chains.specs.Addresses.{absurd-bool, adr, adr-zero, adr-is, adr-pos, index-adr, directory-adr, directory-index}
 use Rattle.chains.specs.Chain.{first, Seg, seg-at, tally-getD}
 
 -- ---- one place, one chain: what is linked from a sector on to the end is told by the sector
@@ -37,7 +39,7 @@ abbrev pub InImage : ℕ → ℕ → List ℕ → Type 0
 InImage M S l = (x : ℕ) → 1 ≤ tally x l → (1 ≤ x) × (x < (M + 1) * S)
 
 first-high : (M S : ℕ) → Shape M S → (l : List ℕ) → InImage M S l → first l 0 < (M + 1) * S
-first-high M S z [] g = omega (arith, z .s1)
+first-high M S z [] g = omega (arith, z .sectors)
 first-high M S z (k ∷ l) g = g k (tally-head k l) .1
 
 seg-length : (M S : ℕ) → Shape M S → (m l l′ : List ℕ) → InImage M S l → InImage M S l′ → Seg S m l 0 → Seg S m l′ 0 → first l 0 ≡ first l′ 0 → length l ≡ length l′
@@ -168,7 +170,7 @@ module _ (M S : ℕ) (z : Shape M S) (img : List ℕ) where
             record { seg = (eqb-true (linkOf img k) 0 e ∙ sym (adr-zero S), tt); head = refl; some = omega arith; few = omega arith; within = one }
         go false e false f h ih = absurd-bool h refl
         go false e true f h ih =
-            let d = directory-index S (z .s1) (linkOf img k) (word-small (256 * k)) f in
+            let d = directory-index S (z .sectors) (linkOf img k) (word-small (256 * k)) f in
             let w = ih (index S (linkOf img k)) (d .1) (d .2) h in
             record {
               seg = (sym (d .0) ∙ sym (adr-directory (index S (linkOf img k)) (d .1) (d .2)) ∙ ap (adr S) (sym (w .head)), w .seg);
@@ -182,7 +184,7 @@ module _ (M S : ℕ) (z : Shape M S) (img : List ℕ) where
     pub directory-sound : directoryRight img S ≡ true → Listing S (directory img S) × Seg S img (directory img S) 0
     unfolding directoryRight directory
     directory-sound h =
-        let w = walked (S - 4) 4 (omega arith) (omega (arith, z .s1)) h in (
+        let w = walked (S - 4) 4 (omega arith) (omega (arith, z .sectors)) h in (
           record {
             head = w .head;
             some = w .some;
@@ -306,11 +308,11 @@ placed-spot M S z img ds d g s o w tab p e =
     let b : (i : ℕ) → i < 3 → getD tab (p + i) 0 ≡ getD (0 ∷ (o / 256 + 1) % 256 ∷ o % 256 ∷ []) i 0 = λ i h. sym (part-at tab p 3 i h) ∙ ap (λ (l : List ℕ). getD l i 0) e in
     let b0 : getD tab p 0 ≡ 0 = ap (λ (x : ℕ). getD tab x 0) (omega arith) ∙ b 0 (omega arith) in
     let v = spot-sector S ds s o w in
-    let b1 : getD tab (p + 1) 0 ≡ w .k + 1 = b 1 (omega arith) ∙ ap (λ (x : ℕ). (x + 1) % 256) (v .0) ∙ omega (arith, z .s2) in
+    let b1 : getD tab (p + 1) 0 ≡ w .k + 1 = b 1 (omega arith) ∙ ap (λ (x : ℕ). (x + 1) % 256) (v .0) ∙ omega (arith, z .most-sectors) in
     let b2 : getD tab (p + 2) 0 ≡ 16 + 24 * w .i = b 2 (omega arith) ∙ v .1 in
     let t : 0 * 256 + (w .k + 1) ≡ w .k + 1 = omega arith in
-    let th : (w .k + 1) / 256 % 256 ≡ 0 = omega (arith, z .s2) in
-    let tl : (w .k + 1) % 256 ≡ w .k + 1 = omega (arith, z .s2) in
+    let th : (w .k + 1) / 256 % 256 ≡ 0 = omega (arith, z .most-sectors) in
+    let tl : (w .k + 1) % 256 ≡ w .k + 1 = omega (arith, z .most-sectors) in
     let ix : index S (w .k + 1) ≡ w .k = index-low S (w .k + 1) (w .k) th tl (omega arith) in
     let q : 256 * w .k + (16 + 24 * w .i) ≡ o = sym pl in
     let me : member (w .k) ds ≡ true = member-in (w .k) ds (subst (λ (x : ℕ). 1 ≤ tally x ds) (w .sector) (tally-getD ds (w .c) (w .nth))) in
@@ -324,9 +326,9 @@ placed-spot M S z img ds d g s o w tab p e =
       th,
       tl,
       ix,
-      within-is 5 S (w .k + 1) (omega arith) (omega arith),
+      within-true 5 S (w .k + 1) (omega arith) (omega arith),
       me,
-      within-is 16 232 (16 + 24 * w .i) (omega arith) (omega arith),
+      within-true 16 232 (16 + 24 * w .i) (omega arith) (omega arith),
       eq-eqb ((16 + 24 * w .i - 16) % 24) 0 (omega arith),
       q,
     ) refl
@@ -361,7 +363,7 @@ places-same M S z ds d s s′ h h′ = go (ℕ-discrete s s′)
             let v = spot-sector S ds s (getD (slotsOf ds) s 0) w in
             let v′ = spot-sector S ds s′ (getD (slotsOf ds) s′ 0) w′ in
             let x1 : (w .k + 1) % 256 ≡ (w′ .k + 1) % 256 = sym (ap (λ (c : ℕ). (c + 1) % 256) (v .0)) ∙ x ∙ ap (λ (c : ℕ). (c + 1) % 256) (v′ .0) in
-            let kk : w .k ≡ w′ .k = low-same (w .k) (w′ .k) (omega (arith, w .high, z .s2)) (omega (arith, w′ .high, z .s2)) x1 in
+            let kk : w .k ≡ w′ .k = low-same (w .k) (w′ .k) (omega (arith, w .high, z .most-sectors)) (omega (arith, w′ .high, z .most-sectors)) x1 in
             let q2 : getD (slotsOf ds) s 0 ≡ getD (slotsOf ds) s′ 0 = omega (arith, kk, y, v .1, v′ .1, w .place, w′ .place) in
             absurd (slots-apart S ds d s s′ h h′ e 0 (omega arith) (omega (arith, q2)) (omega (arith, q2)))
 

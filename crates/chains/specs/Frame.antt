@@ -8,7 +8,8 @@ use lib.ListN.{length, getD}
 use Rattle.rules.specs.Stores.{Store, store, stored}
 use Rattle.rules.specs.Directory.{slotsOf}
 use Rattle.chains.specs.Tally.{tally}
-use Rattle.chains.specs.Stored.{placeAt, bytesOf, Off, length-stored, stored-off}
+use Rattle.laws.specs.Stores.{length-stored}
+use Rattle.chains.specs.Stored.{placeAt, bytesOf, Off, stored-off}
 use Rattle.chains.specs.Directory.{Listing, Spot, spot, slots-apart}
 
 -- a store into the record, into one of the sectors ks, or into the slot at o; or of nothing

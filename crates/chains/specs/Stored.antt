@@ -28,10 +28,6 @@ abbrev pub Off : ℕ → List Store → Type 0
 Off p [] = Unit {0}
 Off p (s ∷ ss) = (placeAt s ≤ p → p < placeAt s + length (bytesOf s) → ⊥) × Off p ss
 
-pub length-stored : (ss : List Store) (m : List ℕ) → length (stored m ss) ≡ length m
-length-stored [] m = refl
-length-stored (store k i vs ∷ ss) m = length-stored ss (over m (256 * k + i) vs) ∙ length-over m (256 * k + i) vs
-
 pub stored-off : (ss : List Store) (m : List ℕ) (p : ℕ) → Off p ss → getD (stored m ss) p 0 ≡ getD m p 0
 stored-off [] m p o = refl
 stored-off (store k i vs ∷ ss) m p o = stored-off ss (over m (256 * k + i) vs) p (o .1) ∙ over-other m (256 * k + i) vs p (o .0)
@@ -45,10 +41,6 @@ stored-at (store s t vs ∷ ss) m zero i p h k e l o =
     ∙ subst (λ (n : ℕ). getD (over m (256 * s + t) vs) n 0 ≡ getD vs i 0) e (over-in m (256 * s + t) vs i k (omega arith))
 stored-at (store s t vs ∷ ss) m (suc q) i p h k e l o =
     stored-at ss (over m (256 * s + t) vs) q i p (omega arith) k e (omega (arith, length-over m (256 * s + t) vs)) o
-
-pub stored-append : (ss ts : List Store) (m : List ℕ) → stored m (ss ++ ts) ≡ stored (stored m ss) ts
-stored-append [] ts m = refl
-stored-append (store k i vs ∷ ss) ts m = stored-append ss ts (over m (256 * k + i) vs)
 
 -- ---- the table: stores into the block that begins at f
 
@@ -71,10 +63,6 @@ abbrev pub Inside : List Put → Type 0
 Inside [] = Unit {0}
 Inside (s ∷ ss) = (fieldOf s + length (valuesOf s) ≤ 320) × Inside ss
 
-pub length-puts : (ps : List Put) (tab : List ℕ) (f : ℕ) → length (puts tab f ps) ≡ length tab
-length-puts [] tab f = refl
-length-puts (put i vs ∷ ps) tab f = length-puts ps (over tab (f + i) vs) f ∙ length-over tab (f + i) vs
-
 pub puts-clear : (ps : List Put) (tab : List ℕ) (f i : ℕ) → Clear i ps → getD (puts tab f ps) (f + i) 0 ≡ getD tab (f + i) 0
 puts-clear [] tab f i c = refl
 puts-clear (put j vs ∷ ps) tab f i c =
@@ -95,14 +83,6 @@ puts-other [] tab n m i w ne h = refl
 puts-other (put j vs ∷ ps) tab n m i w ne h =
     puts-other ps (over tab (320 * n + j) vs) n m i (w .1) ne h
     ∙ over-other tab (320 * n + j) vs (320 * m + i) (λ a b. omega (arith, w .0, ne))
-
-pub puts-append : (ps qs : List Put) (tab : List ℕ) (f : ℕ) → puts tab f (ps ++ qs) ≡ puts (puts tab f ps) f qs
-puts-append [] qs tab f = refl
-puts-append (put i vs ∷ ps) qs tab f = puts-append ps qs (over tab (f + i) vs) f
-
-pub inside-append : (ps qs : List Put) → Inside ps → Inside qs → Inside (ps ++ qs)
-inside-append [] qs w v = v
-inside-append (p ∷ ps) qs w v = (w .0, inside-append ps qs (w .1) v)
 
 -- ---- a fresh sector
 

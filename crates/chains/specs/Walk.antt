@@ -15,7 +15,9 @@ use Rattle.rules.specs.Census.{runsOut, chainRight, numbersFrom, eachOnce}
 use Rattle.laws.specs.Small.{Small, small-word}
 use Rattle.chains.specs.Tally.{tally, tally-append, tally-head, bit, eq1, eq1-same, eq1-ne}
 use Rattle.chains.specs.Once.{Once}
-use Rattle.chains.specs.Addresses.{Shape, pick-both, adr, adr-zero, index-adr, data-adr, data-index}
+use Rattle.laws.specs.Tests.{both}
+use Rattle.laws.specs.Addresses.{Shape}
+use Rattle.chains.specs.Addresses.{adr, adr-zero, index-adr, data-adr, data-index}
 use Rattle.chains.specs.Chain.{first, lastOf, Seg, Chain}
 
 -- ---- the walk
@@ -68,7 +70,7 @@ module _ (M S : ℕ) (z : Shape M S) (m : List ℕ) where
     ran : (n before a x : ℕ) → a < 65536 → before ≡ adr S x → runsOut m M S end n before a ≡ true → Ran M S m end a x (walk S m n a)
     unfolding walk runsOut
     ran zero before a x h e b =
-        let p = pick-both (eqb a 0) (eqb before end) b in
+        let p = both (eqb a 0) (eqb before end) b in
         record {
           start = eqb-true a 0 (p .0) ∙ sym (adr-zero S);
           end = sym (eqb-true before end (p .1)) ∙ e;
@@ -76,20 +78,20 @@ module _ (M S : ℕ) (z : Shape M S) (m : List ℕ) where
           all = λ y t. absurd (omega arith);
         }
     ran (suc n) before a x h e b =
-        let p = pick-both (isData M S a) (runsOut m M S end n a (linkOf m (index S a))) b in
+        let p = both (isData M S a) (runsOut m M S end n a (linkOf m (index S a))) b in
         let d = data-index M S z a h (p .0) in
         let r = ran n a (linkOf m (index S a)) (index S a) (small-word m (256 * index S a) small) (sym (d .0)) (p .1) in
         record {
           start = sym (d .0);
           end = r .end;
           seg = (r .start, r .seg);
-          all = λ y t. both y t (ℕ-discrete y (index S a)) (d .1) (d .2) (r .all y);
+          all = λ y t. either y t (ℕ-discrete y (index S a)) (d .1) (d .2) (r .all y);
         }
       where
-        both : (y : ℕ) → 1 ≤ tally y (index S a ∷ walk S m n (linkOf m (index S a))) → Dec (y ≡ index S a) → S ≤ index S a → index S a < (M + 1) * S
+        either : (y : ℕ) → 1 ≤ tally y (index S a ∷ walk S m n (linkOf m (index S a))) → Dec (y ≡ index S a) → S ≤ index S a → index S a < (M + 1) * S
             → (1 ≤ tally y (walk S m n (linkOf m (index S a))) → (S ≤ y) × (y < (M + 1) * S)) → (S ≤ y) × (y < (M + 1) * S)
-        both y t (yes e) u v r = (omega arith, omega arith)
-        both y t (no e) u v r = r (omega (arith, eq1-ne y (index S a) e))
+        either y t (yes e) u v r = (omega arith, omega arith)
+        either y t (no e) u v r = r (omega (arith, eq1-ne y (index S a) e))
 
   runs : (l : List ℕ) (x : ℕ) → AllData M S l → Seg S m l 0
       → (walk S m (length l) (adr S (first l 0)) ≡ l) × (runsOut m M S (adr S (lastOf l x)) (length l) (adr S x) (adr S (first l 0)) ≡ true)
@@ -97,15 +99,15 @@ module _ (M S : ℕ) (z : Shape M S) (m : List ℕ) where
   runs [] x g s = (refl, rw (eq-eqb (adr S 0) 0 (adr-zero S)) (eq-eqb (adr S x) (adr S x) refl))
   runs (k ∷ l) x g s =
       let q = g k (tally-head k l) in
-      let i = index-adr M S z k (omega (arith, q .0, z .s1)) (q .1) in
+      let i = index-adr M S z k (omega (arith, q .0, z .sectors)) (q .1) in
       let r = runs l k (λ y t. g y (omega arith)) (s .1) in
-      (rw (i, s .0, r .0) refl, rw (data-adr M S z k (omega (arith, q .0, z .s1)) (q .1) (q .0), i, s .0) (r .1))
+      (rw (i, s .0, r .0) refl, rw (data-adr M S z k (omega (arith, q .0, z .sectors)) (q .1) (q .0), i, s .0) (r .1))
 
   -- a chain that the census finds right is a chain
   pub chain-sound : Small m → (p : ℕ) → chainRight m M S (wordAt m p) (wordAt m (p + 2)) (wordAt m (p + 4)) ≡ true → Chain S m p (chainAt S m p) × AllData M S (chainAt S m p)
   unfolding chainRight
   chain-sound small p h =
-      let q = pick-both (leb (wordAt m (p + 4)) (M * S)) _ h in
+      let q = both (leb (wordAt m (p + 4)) (M * S)) _ h in
       let r = ran small (wordAt m (p + 2)) (wordAt m (p + 4)) 0 (wordAt m p) 0 (small-word m p small) (sym (adr-zero S)) (q .1) in
       (record { start = r .start; end = r .end; size = sym (length-walk S m (wordAt m (p + 4)) (wordAt m p)); seg = r .seg }, r .all)
 
@@ -135,7 +137,7 @@ pub each-sound : (n : ℕ) (l : List ℕ) → eachOnce n l ≡ true → (x : ℕ
 unfolding eachOnce
 each-sound zero l h x b = absurd (omega arith)
 each-sound (suc n) l h x b =
-    let p = pick-both (eqb (Rattle.rules.specs.Census.tally n l) 1) (eachOnce n l) h in
+    let p = both (eqb (Rattle.rules.specs.Census.tally n l) 1) (eachOnce n l) h in
     go (ℕ-discrete x n) (eqb-true (Rattle.rules.specs.Census.tally n l) 1 (p .0)) (each-sound n l (p .1) x)
   where
     go : Dec (x ≡ n) → Rattle.rules.specs.Census.tally n l ≡ 1 → (x < n → tally x l ≡ 1) → tally x l ≡ 1

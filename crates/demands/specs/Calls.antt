@@ -18,7 +18,9 @@ use Rattle.rules.specs.Block.{idle, activityIn, presettable, presetIn, preset, 
 use Rattle.rules.specs.Transfer.{transfer}
 use Rattle.rules.specs.Call.{served, fits, misfit, checked, perform, asked, call}
 use Rattle.laws.specs.Tests.{pick-cases}
-use Rattle.chains.specs.Addresses.{Shape, Shaped, shape-right, absurd-bool, pick-both, within-true}
+use Rattle.laws.specs.Tests.{both, within-is}
+use Rattle.laws.specs.Addresses.{Shape}
+use Rattle.chains.specs.Addresses.{Sized, shape-right, absurd-bool}
 use Rattle.chains.specs.Directory.{Listing}
 use Rattle.chains.specs.Stored.{Clear, Inside, puts-clear}
 use Rattle.demands.specs.Ledger.{File, noFile, Block, closed, listing, reading, writing, Ledger, Request, Fate, denied, granted, activity, block, transferred, shutBlock, rewound, shownNext, performed, fate}
@@ -143,7 +145,7 @@ unfolding presettable
 presettable-is i h = go (within 3 14 i) refl (within 25 27 i) refl (within 30 31 i) refl h
   where
     span : (lo hi : ℕ) → within lo hi i ≡ true → (lo ≤ i) × (i ≤ hi)
-    span lo hi e = within-true lo hi i e
+    span lo hi e = within-is lo hi i e
 
     go : (u : Bool) → within 3 14 i ≡ u → (v : Bool) → within 25 27 i ≡ v → (w : Bool) → within 30 31 i ≡ w → pick u true (pick v true (pick w true (within 53 63 i))) ≡ true → Offset i
     go true e v f w g h = let s = span 3 14 e in record { low = omega arith; high = omega arith; not-place = λ x y. omega arith }

@@ -18,7 +18,9 @@ use Rattle.rules.specs.Files.{writeProtected, deleteProtected}
 use Rattle.rules.specs.Call.{served, fits}
 use Rattle.laws.specs.Tests.{pick-cases, pick-all}
 use Rattle.laws.specs.Bytes.{length-part}
-use Rattle.chains.specs.Addresses.{Shape, absurd-bool, within-true}
+use Rattle.laws.specs.Tests.{within-is}
+use Rattle.laws.specs.Addresses.{Shape}
+use Rattle.chains.specs.Addresses.{absurd-bool}
 use Rattle.chains.specs.Directory.{Listing}
 use Rattle.demands.specs.Ledger.{File, noFile, Block, closed, listing, reading, writing, Ledger, Request, Fate, denied, granted, after, Sought, nowhere, slot, onSought, seek, fileNamed, vacantSlot, busy, activity, block, file, attributes, onBlock, onFile, withLast, withNew, withMark, withName, newFile, padTo, taken, transferred, openedToRead, openedToWrite, shutBlock, rewound, shownNext, deleted, renamed, performed, fate}
 use Rattle.demands.specs.Relation.{opens, writes, Reading, Writing, Keeps, Agrees}
@@ -64,10 +66,10 @@ unfolding served
 last-code c h a0 a1 a2 a4 a5 a6 a7 a9 a12 = go (within 0 2 c) refl (within 4 7 c) refl (eqb c 9) refl h
   where
     go : (u : Bool) → within 0 2 c ≡ u → (v : Bool) → within 4 7 c ≡ v → (w : Bool) → eqb c 9 ≡ w → pick u true (pick v true (pick w true (within 12 13 c))) ≡ true → c ≡ 13
-    go true e v f w g h = absurd (low-code c (within-true 0 2 c e .1) a0 a1 a2)
-    go false e true f w g h = let p = within-true 4 7 c f in absurd (mid-code c (p .0) (p .1) a4 a5 a6 a7)
+    go true e v f w g h = absurd (low-code c (within-is 0 2 c e .1) a0 a1 a2)
+    go false e true f w g h = let p = within-is 4 7 c f in absurd (mid-code c (p .0) (p .1) a4 a5 a6 a7)
     go false e false f true g h = absurd (a9 (eqb-true c 9 g))
-    go false e false f false g h = let p = within-true 12 13 c h in high-code c (p .0) (p .1) a12
+    go false e false f false g h = let p = within-is 12 13 c h in high-code c (p .0) (p .1) a12
 
 module _ (M S : ℕ) (a : Ledger) (n : ℕ) (q : Request) where
   abbrev C : Fate → Type 0

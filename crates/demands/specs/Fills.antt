@@ -19,10 +19,12 @@ use Rattle.rules.specs.Transfer.{slotIn, sent, fill, shut, mark, closeWriting, 
 use Rattle.rules.specs.declared.Lookup.the-variants.{At, Missing, Broken}
 use Rattle.laws.specs.Bytes.{word-put, word-same, part-at, part-is, part-same, length-part, length-one, length-two}
 use Rattle.chains.specs.Tally.{tally, tally-head}
-use Rattle.chains.specs.Addresses.{Shape, adr, adr-zero}
+use Rattle.laws.specs.Addresses.{Shape}
+use Rattle.chains.specs.Addresses.{adr, adr-zero}
 use Rattle.chains.specs.Chain.{first, lastOf, Chain, contents, setLast, contents-last, tally-last, chain-same, not-in, in-one, empty, length-contents}
 use Rattle.chains.specs.Directory.{Listing, Spot, spot, placed-spot}
-use Rattle.chains.specs.Stored.{length-stored, stored-off, stored-at, puts-clear, puts-at, snoc-other, snoc-last, length-snoc}
+use Rattle.laws.specs.Stores.{length-stored}
+use Rattle.chains.specs.Stored.{stored-off, stored-at, puts-clear, puts-at, snoc-other, snoc-last, length-snoc}
 use Rattle.chains.specs.Frame.{Frame, framed, in-sector}
 use Rattle.demands.specs.Ledger.{File, noFile, Block, closed, listing, reading, writing, Ledger, Request, Fate, denied, granted, file, onBlock, onFile, withLast, withMark, padTo, shutBlock}
 use Rattle.demands.specs.Relation.{tb, t2, tp, opens, writes, secsOf, Holds, Reading, Writing, Listed, Keeps, Agrees, t2-same, tp-same, Turn, step}
@@ -62,14 +64,14 @@ module _ (M S : ℕ) (z : Shape M S) (ds : List ℕ) (d : Listing S ds) (img tab
     img′ = stored img ws
 
     fill-frame : Frame S ds img img′ (k ∷ []) s
-    fill-frame = framed S (z .s1) ds d s hs img (k ∷ []) ws (in-sector k 4 v (kd .0) (tally-head k []) (omega (arith, lv)), tt)
+    fill-frame = framed S (z .sectors) ds d s hs img (k ∷ []) ws (in-sector k 4 v (kd .0) (tally-head k []) (omega (arith, lv)), tt)
 
     off : (p : ℕ) → (256 * k + 4 ≤ p → p < 256 * k + 256 → ⊥) → getD img′ p 0 ≡ getD img p 0
     off p h = stored-off ws img p ((λ u v. h u (omega (arith, lv))), tt)
 
     fill-free : Chain S img′ 541 (a .free)
     fill-free =
-        chain-same S img img′ (a .free) 541 (λ i h. off (541 + i) (λ u v. omega (arith, kd, z .s1)))
+        chain-same S img img′ (a .free) 541 (λ i h. off (541 + i) (λ u v. omega (arith, kd, z .sectors)))
         (λ j i h c. off (256 * j + i) (λ u v. omega arith)) (r .free)
 
     fill-holds : Holds S img′ o (withLast f v)

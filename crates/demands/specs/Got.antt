@@ -13,7 +13,7 @@ use borrow.Author.Tests.{eq-eqb, ne-eqb, lt-ltb, le-ltb}
 use Rattle.rules.specs.Bytes.{pick, part}
 use Rattle.rules.specs.Directory.{slotsOf}
 use Rattle.laws.specs.Bytes.{length-part}
-use Rattle.chains.specs.Addresses.{Shape}
+use Rattle.laws.specs.Addresses.{Shape}
 use Rattle.chains.specs.Chain.{contents}
 use Rattle.chains.specs.Directory.{Listing}
 use Rattle.demands.specs.Ledger.{File, noFile, Block, closed, listing, reading, writing, Ledger, Request, Fate, denied, granted, reply, gives, after, block, file, onBlock, transferred, fate}

@@ -18,7 +18,8 @@ use Rattle.rules.specs.Transfer.{slotIn}
 use Rattle.rules.specs.Files.{openDirectory, shown, nextSlot, readSector}
 use Rattle.rules.specs.declared.Lookup.the-variants.{At, Missing, Broken}
 use Rattle.laws.specs.Bytes.{part-is, length-part, length-zeros, zeros-at, same-refl, same-eq}
-use Rattle.chains.specs.Addresses.{Shape, absurd-bool}
+use Rattle.laws.specs.Addresses.{Shape}
+use Rattle.chains.specs.Addresses.{absurd-bool}
 use Rattle.chains.specs.Chain.{first-getD}
 use Rattle.chains.specs.Directory.{Listing, directory-is, slot-at, length-slots, Spot, spot, spot-sector, placed-spot, behind}
 use Rattle.chains.specs.Stored.{puts-clear, puts-at}
@@ -88,7 +89,7 @@ module _ (M S : ℕ) (z : Shape M S) (ds : List ℕ) (d : Listing S ds) (img tab
           let v = spot-sector S ds s (getD (slotsOf ds) s 0) w in
           let q : (getD (slotsOf ds) s 0 / 256 + 1) % 256 ≡ 0 = ap (λ (l : List ℕ). getD l 1 0) (same-eq (placeOf (getD (slotsOf ds) s 0)) (zeros 3) e) in
           let q2 : (w .k + 1) % 256 ≡ 0 = sym (ap (λ (x : ℕ). (x + 1) % 256) (v .0)) ∙ q in
-          absurd (omega (arith, q2, w .low, w .high, z .s2))
+          absurd (omega (arith, q2, w .low, w .high, z .most-sectors))
 
   pub next-slot-meets : (q : Request) (p : ℕ) → getD (a .blocks) n closed ≡ listing p → Meets M S ds img tab n (nextSlot img tab S (320 * n)) (shownNext M S a n q (listing p))
   unfolding nextSlot

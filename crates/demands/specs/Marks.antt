@@ -12,10 +12,12 @@ use Rattle.rules.specs.Stores.{Store, store, stored}
 use Rattle.rules.specs.Directory.{live, slotsOf}
 use Rattle.laws.specs.Bytes.{part-is, part-at, part-same, length-part, length-one}
 use Rattle.chains.specs.Tally.{tally}
-use Rattle.chains.specs.Addresses.{Shape, absurd-bool}
+use Rattle.laws.specs.Addresses.{Shape}
+use Rattle.chains.specs.Addresses.{absurd-bool}
 use Rattle.chains.specs.Chain.{Chain, chain-same}
 use Rattle.chains.specs.Directory.{Listing, Spot, spot}
-use Rattle.chains.specs.Stored.{length-stored, stored-off, stored-at}
+use Rattle.laws.specs.Stores.{length-stored}
+use Rattle.chains.specs.Stored.{stored-off, stored-at}
 use Rattle.chains.specs.Frame.{Frame, framed, in-slot}
 use Rattle.demands.specs.Ledger.{File, noFile, Block, closed, listing, reading, writing, Ledger, withMark}
 use Rattle.demands.specs.Relation.{opens, writes, Holds, Keeps, Agrees, Turn, step, long}
@@ -57,7 +59,7 @@ module _ (M S : ℕ) (z : Shape M S) (ds : List ℕ) (d : Listing S ds) (img tab
     slot-at j p h e = stored-at ws img 0 j p (omega arith) h (omega arith) (omega (arith, slot-in)) tt
 
     pub slot-frame : Frame S ds img (stored img ws) [] s
-    slot-frame = framed S (z .s1) ds d s hs img [] ws (in-slot (o / 256) (o % 256 + i) vs (omega arith) (omega arith), tt)
+    slot-frame = framed S (z .sectors) ds d s hs img [] ws (in-slot (o / 256) (o % 256 + i) vs (omega arith) (omega arith), tt)
 
     pub slot-free : Chain S (stored img ws) 541 (a .free)
     slot-free =

@@ -9,9 +9,9 @@ use lib.ListN.{length, getD, set}
 use Rattle.rules.specs.Bytes.{pick, one, wordAt, part}
 use Rattle.rules.specs.Stores.{Store, stored, Put, put, puts}
 use Rattle.rules.specs.Outcome.{Outcome, refuse, done, Effect, settled, answer, given, onImage, onBlock}
-use Rattle.chains.specs.Addresses.{Shape}
+use Rattle.laws.specs.Addresses.{Shape}
 use Rattle.chains.specs.Directory.{Listing}
-use Rattle.chains.specs.Stored.{puts-append}
+use Rattle.laws.specs.Stores.{puts-append}
 use Rattle.demands.specs.Ledger.{Ledger, Request, Fate, denied, granted, reply, gives, after}
 use Rattle.demands.specs.Relation.{Agrees}
 use Rattle.demands.specs.Quiet.{answered}

@@ -7,21 +7,25 @@ use Prim.Native.Nat.{ℕ, zero, suc, _+_, _-_, _*_, _/_, _%_, _≤_, _<_}
 use native.Mathlib.Omega.{arith}
 use lib.ListN.{length, getD, set, drop, length-append, length-replicate, List·getD-append}
 use lib.Seq.{getD-set-same, getD-append-add}
-use lib.Dec.{eqb}
-use Rattle.rules.specs.Bytes.{pick, wordAt, part, one, zeros}
+use lib.Dec.{eqb, leb}
+use borrow.Author.Tests.{ne-eqb, lt-leb}
+use Rattle.laws.specs.Tests.{both, either, within-is}
+use Rattle.rules.specs.Bytes.{pick, within, wordAt, part, one, zeros}
 use Rattle.rules.specs.Stores.{Store, store, stored, Put, put, puts}
-use Rattle.rules.specs.Names.{legal}
-use Rattle.rules.specs.Directory.{slotsOf, live, named, vacant, find, vacancy, placeOf}
+use Rattle.rules.specs.Names.{isLetter, isWord, legal}
+use Rattle.rules.specs.Directory.{slotsOf, live, neverUsed, named, vacant, find, vacancy, placeOf}
 use Rattle.rules.specs.Outcome.{Outcome, refuse, done, onSlot, onNone}
 use Rattle.rules.specs.Block.{inUse}
 use Rattle.rules.specs.Files.{opened, newEntry, openRead, openWrite}
 use Rattle.rules.specs.declared.Lookup.the-variants.{At, Missing, Broken}
 use Rattle.laws.specs.Bytes.{word-put, word-same, part-at, part-is, part-all, length-part, length-zeros, zeros-at}
 use Rattle.chains.specs.Tally.{tally}
-use Rattle.chains.specs.Addresses.{Shape, adr, adr-zero, absurd-bool}
+use Rattle.laws.specs.Addresses.{Shape}
+use Rattle.chains.specs.Addresses.{adr, adr-zero, absurd-bool}
 use Rattle.chains.specs.Chain.{first, first-getD}
 use Rattle.chains.specs.Directory.{Listing}
-use Rattle.chains.specs.Stored.{placeAt, bytesOf, fieldOf, valuesOf, noPut, Clear, length-stored, puts-clear, puts-at}
+use Rattle.laws.specs.Stores.{length-stored}
+use Rattle.chains.specs.Stored.{placeAt, bytesOf, fieldOf, valuesOf, noPut, Clear, puts-clear, puts-at}
 use Rattle.demands.specs.Ledger.{File, noFile, Block, closed, listing, reading, writing, Ledger, Request, Fate, denied, granted, Sought, nowhere, slot, onSought, seek, fileNamed, vacantSlot, busy, onBlock, onFile, newFile, openedToRead, openedToWrite}
 use Rattle.demands.specs.Relation.{tb, t2, tp, opens, writes, Holds, Reading, Writing, Keeps, Agrees, Turn, step, step-block}
 use Rattle.demands.specs.Quiet.{turned, writes-opens}
@@ -30,25 +34,16 @@ use Rattle.demands.specs.Searches.{legal-part, find-is, vacancy-is, in-u
 use Rattle.demands.specs.Marks.{slot-in, slot-off, slot-at, slot-frame, slot-free}
 
 -- ---- a legal name is live
-pub legal-live : (m : List ℕ) → legal m 0 ≡ true → live m 0 ≡ true
-unfolding legal Rattle.rules.specs.Names.isWord Rattle.rules.specs.Names.isLetter Rattle.rules.specs.Bytes.within part live Rattle.rules.specs.Directory.neverUsed Rattle.rules.specs.Directory.deleted
-legal-live m h = go (getD m 0 0) (Rattle.chains.specs.Addresses.pick-both _ _ (Rattle.chains.specs.Addresses.pick-both _ _ h .0) .0)
+letter-live : (x : ℕ) → isLetter x ≡ true → pick (eqb x 0) false (pick (leb 128 x) false true) ≡ true
+unfolding isLetter
+letter-live x h = either (within 65 90 x) (within 97 122 x) h (λ e. now 65 90 (omega arith) (omega arith) e) (λ e. now 97 122 (omega arith) (omega arith) e)
   where
-    go : (x : ℕ) → pick (pick (lib.Dec.leb 65 x) (lib.Dec.leb x 90) false) true (pick (lib.Dec.leb 97 x) (lib.Dec.leb x 122) false) ≡ true
-        → pick (eqb x 0) false (pick (lib.Dec.leb 128 x) false true) ≡ true
-    go x h = both (pick (lib.Dec.leb 65 x) (lib.Dec.leb x 90) false) refl h
-      where
-        done′ : 65 ≤ x → x ≤ 122 → pick (eqb x 0) false (pick (lib.Dec.leb 128 x) false true) ≡ true
-        done′ a b = rw (borrow.Author.Tests.ne-eqb x 0 (omega arith), borrow.Author.Tests.lt-leb 128 x (omega arith)) refl
+    now : (lo hi : ℕ) → 1 ≤ lo → hi < 128 → within lo hi x ≡ true → pick (eqb x 0) false (pick (leb 128 x) false true) ≡ true
+    now lo hi a b e = let w = within-is lo hi x e in rw (ne-eqb x 0 (omega arith), lt-leb 128 x (omega arith)) refl
 
-        both : (u : Bool) → pick (lib.Dec.leb 65 x) (lib.Dec.leb x 90) false ≡ u → pick u true (pick (lib.Dec.leb 97 x) (lib.Dec.leb x 122) false) ≡ true
-            → pick (eqb x 0) false (pick (lib.Dec.leb 128 x) false true) ≡ true
-        both true e k =
-            let p = Rattle.chains.specs.Addresses.pick-both _ _ e in
-            done′ (borrow.Author.Tests.leb-true 65 x (p .0)) (let q = borrow.Author.Tests.leb-true x 90 (p .1) in omega arith)
-        both false e k =
-            let p = Rattle.chains.specs.Addresses.pick-both _ _ k in
-            done′ (let q = borrow.Author.Tests.leb-true 97 x (p .0) in omega arith) (borrow.Author.Tests.leb-true x 122 (p .1))
+pub legal-live : (m : List ℕ) → legal m 0 ≡ true → live m 0 ≡ true
+unfolding legal isWord part live neverUsed Rattle.rules.specs.Directory.deleted
+legal-live m h = letter-live (getD m 0 0) (both (isLetter (getD m 0 0)) _ (both (isWord (part m 0 8)) _ h .0) .0)
 
 -- ---- the table of an open: the entry es of the slot at o goes to 4-27
 module _ (M S : ℕ) (z : Shape M S) (ds : List ℕ) (d : Listing S ds) (img tab : List ℕ) (a : Ledger) (r : Agrees M S ds img tab a) (n : ℕ) (hn : n < 8) (act o : ℕ) (es : List ℕ) (le : length es ≡ 24) where

@@ -11,9 +11,10 @@ use Rattle.rules.specs.Bytes.{one}
 use Rattle.rules.specs.Stores.{Put, put, puts}
 use Rattle.rules.specs.Directory.{slotsOf}
 use Rattle.laws.specs.Bytes.{length-one}
-use Rattle.chains.specs.Addresses.{Shape}
+use Rattle.laws.specs.Addresses.{Shape}
 use Rattle.chains.specs.Directory.{Listing}
-use Rattle.chains.specs.Stored.{Clear, Inside, length-puts, puts-clear, puts-other}
+use Rattle.laws.specs.Stores.{length-puts}
+use Rattle.chains.specs.Stored.{Clear, Inside, puts-clear, puts-other}
 use Rattle.demands.specs.Ledger.{File, noFile, Block, closed, listing, reading, writing, Ledger, activity}
 use Rattle.demands.specs.Relation.{tb, tp, opens, writes, Listed, Reading, Writing, Keeps, Agrees, Rest, keeps-same, Turn, step-block}
 

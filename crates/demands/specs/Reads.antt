@@ -18,7 +18,8 @@ use Rattle.rules.specs.Transfer.{nextToRead, loadPuts, load}
 use Rattle.rules.specs.Files.{rewind}
 use Rattle.laws.specs.Bytes.{word-put, word-same, part-at, length-part, length-one, length-two}
 use Rattle.chains.specs.Tally.{tally}
-use Rattle.chains.specs.Addresses.{Shape, adr, adr-zero, adr-pos, adr-small, index-adr, data-adr}
+use Rattle.laws.specs.Addresses.{Shape}
+use Rattle.chains.specs.Addresses.{adr, adr-zero, adr-pos, adr-small, index-adr, data-adr}
 use Rattle.chains.specs.Chain.{tally-getD, seg-at, contents-at}
 use Rattle.chains.specs.Directory.{Listing}
 use Rattle.chains.specs.Stored.{puts-clear, puts-at}
@@ -102,7 +103,7 @@ module _ (M S : ℕ) (z : Shape M S) (ds : List ℕ) (d : Listing S ds) (img tab
     k-low = all-low M S z ds d img tab a r k (omega (arith, kt, slot-le M S z ds d img tab a r s k (w .slot)))
 
     k-pos : 1 ≤ k
-    k-pos = omega (arith, k-low, z .s1)
+    k-pos = omega (arith, k-low, z .sectors)
 
     k-high : k < (M + 1) * S
     k-high = all-high M S z ds d img tab a r k (omega (arith, kt, slot-le M S z ds d img tab a r s k (w .slot)))

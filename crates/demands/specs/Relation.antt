@@ -13,7 +13,8 @@ use Rattle.rules.specs.Directory.{live, slotsOf, placeOf}
 use Rattle.laws.specs.Bytes.{word-same, part-same}
 use Rattle.chains.specs.Tally.{tally, tally-append, tally-head, flat, tally-set, tally-one, tally-two}
 use Rattle.chains.specs.Once.{Once, once-eq, once-le}
-use Rattle.chains.specs.Addresses.{Shape, Shaped, adr, room-for}
+use Rattle.laws.specs.Addresses.{Shape}
+use Rattle.chains.specs.Addresses.{Sized, adr, room-for}
 use Rattle.chains.specs.Chain.{first, lastOf, Seg, Chain, contents, seg-same, contents-same, chain-same, record-same}
 use Rattle.chains.specs.Directory.{Listing}
 use Rattle.chains.specs.Frame.{Frame}
@@ -106,7 +107,7 @@ Keeps S os tab n fs (writing s ub) = Writing S os tab n (getD fs s noFile) s ub
 
 -- THE RELATION, for a diskette of M, S whose directory's sectors are ds
 pub record Agrees (M S : ℕ) (ds img tab : List ℕ) (a : Ledger) : Type 0 where
-  pub shaped : Shaped M S img
+  pub shaped : Sized M S img
   pub tlen : length tab ≡ 2560
   pub dir : Seg S img ds 0
   pub ns : length (a .slots) ≡ length (slotsOf ds)

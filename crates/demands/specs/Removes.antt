@@ -20,10 +20,12 @@ use Rattle.rules.specs.Transfer.{linked, mark}
 use Rattle.rules.specs.Files.{writeProtected, deleteProtected, hangStores, gone, remove, delete}
 use Rattle.laws.specs.Bytes.{word-put, word-same, part-at, part-is, part-same, part-all, length-part, length-one}
 use Rattle.chains.specs.Tally.{tally, tally-append, apart}
-use Rattle.chains.specs.Addresses.{Shape, adr, absurd-bool}
+use Rattle.laws.specs.Addresses.{Shape}
+use Rattle.chains.specs.Addresses.{adr, absurd-bool}
 use Rattle.chains.specs.Chain.{first, lastOf, Seg, Chain, tally-last, first-in, last-append, seg-same, seg-hang, chain-same, empty, contents-same}
 use Rattle.chains.specs.Directory.{Listing}
-use Rattle.chains.specs.Stored.{Off, length-stored, stored-off, stored-at, puts-clear, puts-at}
+use Rattle.laws.specs.Stores.{length-stored}
+use Rattle.chains.specs.Stored.{Off, stored-off, stored-at, puts-clear, puts-at}
 use Rattle.chains.specs.Frame.{Frame, framed, Lies, in-record, in-sector, in-slot, of-nothing}
 use Rattle.demands.specs.Ledger.{File, noFile, Block, closed, Ledger, Request, Fate, denied, granted, Sought, nowhere, slot, onSought, seek, fileNamed, busy, block, file, attributes, onBlock, onFile, withMark, withName, deleted, renamed}
 use Rattle.demands.specs.Relation.{tb, t2, tp, opens, writes, Holds, Keeps, Agrees, tp-same, Turn, step, long}
@@ -86,7 +88,7 @@ module _ (M S : ℕ) (z : Shape M S) (ds : List ℕ) (d : Listing S ds) (img tab
     ql h = last-data M S z fr (free-data M S z ds d img tab a r) h .0
 
     sector : (j i : ℕ) → S ≤ j → i < 256 → (1 ≤ length fr → j ≢ lastOf fr 0) → getD img′ (256 * j + i) 0 ≡ getD img (256 * j + i) 0
-    sector j i b c g = keep (256 * j + i) (λ o u v. g o (omega arith)) (λ u v. omega (arith, z .s1)) (omega (arith, ohigh))
+    sector j i b c g = keep (256 * j + i) (λ o u v. g o (omega arith)) (λ u v. omega (arith, z .sectors)) (omega (arith, ohigh))
 
     link-lies : Dec (length fr ≡ 0) → Lies S fr o (store (lastOf fr 0) 0 lk)
     unfolding two
@@ -97,7 +99,7 @@ module _ (M S : ℕ) (z : Shape M S) (ds : List ℕ) (d : Listing S ds) (img tab
 
     frame : Frame S ds img img′ fr s
     unfolding six one
-    frame = framed S (z .s1) ds d s hs img fr hangS (link-lies (ℕ-discrete (length fr) 0), (in-record _ refl, (in-slot (o / 256) (o % 256) _ (omega arith) (omega arith), tt)))
+    frame = framed S (z .sectors) ds d s hs img fr hangS (link-lies (ℕ-discrete (length fr) 0), (in-record _ refl, (in-slot (o / 256) (o % 256) _ (omega arith) (omega arith), tt)))
 
     l-data : AllData M S l
     l-data = secs-data M S z ds d img tab a r s hs
@@ -113,8 +115,8 @@ module _ (M S : ℕ) (z : Shape M S) (ds : List ℕ) (d : Listing S ds) (img tab
         let b : 256 * lastOf fr 0 + 256 ≤ length img = fits M S z ds d img tab a r (lastOf fr 0) (last-data M S z fr (free-data M S z ds d img tab a r) q .1) in
         let t2 : length lk ≡ 2 = ap length t in
         word-put img′ (256 * lastOf fr 0) (adr S (first l 0)) (sector-small M S z (first l 0) (l-data (first l 0) (first-in l 0 some)))
-        (stored-at hangS img 0 0 (256 * lastOf fr 0) (omega arith) (omega arith) (omega arith) (omega arith) (omega (arith, ql q, z .s1, ohigh)) ∙ ap (λ (x : List ℕ). getD x 0 0) t)
-        (stored-at hangS img 0 1 (256 * lastOf fr 0 + 1) (omega arith) (omega arith) (omega arith) (omega arith) (omega (arith, ql q, z .s1, ohigh)) ∙ ap (λ (x : List ℕ). getD x 1 0) t)
+        (stored-at hangS img 0 0 (256 * lastOf fr 0) (omega arith) (omega arith) (omega arith) (omega arith) (omega (arith, ql q, z .sectors, ohigh)) ∙ ap (λ (x : List ℕ). getD x 0 0) t)
+        (stored-at hangS img 0 1 (256 * lastOf fr 0 + 1) (omega arith) (omega arith) (omega arith) (omega arith) (omega (arith, ql q, z .sectors, ohigh)) ∙ ap (λ (x : List ℕ). getD x 1 0) t)
 
     long1 : 2560 ≤ length img
     long1 = long M S z ds d img tab a r

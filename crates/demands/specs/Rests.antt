@@ -12,7 +12,9 @@ use borrow.Author.Tests.{eq-eqb, ne-eqb, eqb-true, lt-ltb, le-ltb}
 use Rattle.rules.specs.Bytes.{pick, part, same}
 use Rattle.rules.specs.Directory.{live}
 use Rattle.laws.specs.Bytes.{same-refl, same-eq, part-all}
-use Rattle.chains.specs.Addresses.{Shape, absurd-bool, pick-both}
+use Rattle.laws.specs.Tests.{both}
+use Rattle.laws.specs.Addresses.{Shape}
+use Rattle.chains.specs.Addresses.{absurd-bool}
 use Rattle.chains.specs.Directory.{Listing}
 use Rattle.demands.specs.Ledger.{File, noFile, Block, closed, Ledger, Request, Fate, denied, granted, reply, after, Sought, nowhere, slot, fileNamed, vacantSlot, block, file, withName, fate}
 use Rattle.demands.specs.Relation.{writes, Agrees}
@@ -65,7 +67,7 @@ module _ (a : Ledger) (t : Tidy (a .slots)) (s : ℕ) (f : File) (r : Rests a s 
         still-so : (w : Bool) → u ≡ w → (q .code ≡ 13 → fileNamed (q .name) (a .slots) ≢ slot s) → titled f w (q .rename) ≡ f
         still-so false e k = refl
         still-so true e k =
-            let p = pick-both (eqb (q .code) 13) (same (q .name) (f .name)) e in
+            let p = both (eqb (q .code) 13) (same (q .name) (f .name)) e in
             absurd (k (eqb-true (q .code) 13 (p .0)) (ap (λ (x : List ℕ). fileNamed x (a .slots)) (same-eq (q .name) (f .name) (p .1)) ∙ found))
 
         go : Slot a a′ n q s → file a′ s ≡ titled f u (q .rename)
@@ -83,7 +85,7 @@ module _ (a : Ledger) (t : Tidy (a .slots)) (s : ℕ) (f : File) (r : Rests a s 
         go : (w : Bool) → u ≡ w → live ((titled f w (q .rename)) .name) 0 ≡ true
         go false e = r .alive
         go true e =
-            let p = pick-both (eqb (q .code) 13) (same (q .name) (f .name)) e in
+            let p = both (eqb (q .code) 13) (same (q .name) (f .name)) e in
             legal-live (q .rename) (rename-legal a a′ n q c (eqb-true (q .code) 13 (p .0)))
 
     pub rests-on : Rests a′ s (titled f u (q .rename))

@@ -19,7 +19,8 @@ use Rattle.rules.specs.Census.{Survey, survey, census}
 use Rattle.laws.specs.Bytes.{length-zeros, zeros-at, length-part}
 use Rattle.laws.specs.Effects.{call-wrong, preset-quiet, extension-quiet}
 use Rattle.laws.specs.Surveys.{Sane, Surveyed, census-is}
-use Rattle.chains.specs.Addresses.{Shape, Shaped}
+use Rattle.laws.specs.Addresses.{Shape}
+use Rattle.chains.specs.Addresses.{Sized}
 use Rattle.chains.specs.Directory.{Listing}
 use Rattle.demands.specs.Ledger.{Ledger, Request, Fate, denied, granted, reply, gives, after, fate}
 use Rattle.demands.specs.Relation.{tb, Agrees}
@@ -165,9 +166,9 @@ module _ (x : Machine) (s : Start x) where
   start-sane = surveyed .0
 
   pub start-shape : Shape M S
-  start-shape = let h = surveyed .1 .shape in record { m1 = h .tracks; m2 = h .most-tracks; s1 = h .sectors; s2 = h .most-sectors }
+  start-shape = surveyed .1 .shape
 
-  pub start-shaped : Shaped M S (x .img)
+  pub start-shaped : Sized M S (x .img)
   start-shaped = record { last = refl; per = refl; size = surveyed .1 .long ∙ omega arith }
 
   pub start-list : Listing S (directory (x .img) S)

@@ -20,7 +20,8 @@ use Rattle.rules.specs.declared.Found.{Found}
 use Rattle.rules.specs.declared.Lookup.{Lookup}
 use Rattle.rules.specs.declared.Lookup.the-variants.{At, Missing, Broken}
 use Rattle.laws.specs.Bytes.{part-at, part-same, part-all, length-part, same-refl, same-eq}
-use Rattle.chains.specs.Addresses.{Shape, absurd-bool}
+use Rattle.laws.specs.Addresses.{Shape}
+use Rattle.chains.specs.Addresses.{absurd-bool}
 use Rattle.chains.specs.Directory.{Listing, directory-is, places-same}
 use Rattle.demands.specs.Ledger.{File, noFile, Block, closed, listing, reading, writing, Ledger, Sought, nowhere, slot, later, seek, fileNamed, vacantSlot, activity, holdsOpen, busy}
 use Rattle.demands.specs.Relation.{tb, tp, opens, writes, Holds, Reading, Writing, Keeps, Agrees}

@@ -18,7 +18,9 @@ use Rattle.rules.specs.Outcome.{Effect, effect}
 use Rattle.rules.specs.Block.{idle, presettable, presetIn}
 use Rattle.rules.specs.Call.{served, fits}
 use Rattle.laws.specs.Bytes.{same-refl}
-use Rattle.chains.specs.Addresses.{Shape, absurd-bool, pick-both}
+use Rattle.laws.specs.Tests.{both}
+use Rattle.laws.specs.Addresses.{Shape}
+use Rattle.chains.specs.Addresses.{absurd-bool}
 use Rattle.chains.specs.Chain.{contents, setLast, length-contents, empty}
 use Rattle.chains.specs.Directory.{Listing}
 use Rattle.demands.specs.Ledger.{File, noFile, Block, closed, listing, reading, writing, Ledger, Request, Fate, denied, granted, reply, after, Sought, nowhere, slot, onSought, fileNamed, vacantSlot, holdsOpen, busy, activity, block, file, onBlock, onFile, withLast, withMark, withName, newFile, padTo, openedToRead, openedToWrite, shutBlock, performed, fate}
@@ -91,8 +93,8 @@ module _ (M S : ℕ) (z : Shape M S) (ds : List ℕ) (d : Listing S ds) where
   unfolding renames
   rename-ok x a g n b nm l false e = l
   rename-ok x a g n b nm l true e =
-      let p = pick-both (eqb (answers flex x n b) 0) _ e in
-      let q = pick-both (eqb ((request (x .tab) n b) .code) 13) _ (p .1) in
+      let p = both (eqb (answers flex x n b) 0) _ e in
+      let q = both (eqb ((request (x .tab) n b) .code) 13) _ (p .1) in
       go (eqb-true (answers flex x n b) 0 (p .0)) (eqb-true ((request (x .tab) n b) .code) 13 (q .0)) (decLt n 8)
     where
       go : answers flex x n b ≡ 0 → (request (x .tab) n b) .code ≡ 13 → Dec (n < 8) → legal ((request (x .tab) n b) .rename) 0 ≡ true

@@ -18,7 +18,8 @@ use Rattle.rules.specs.Transfer.{linked}
 use Rattle.laws.specs.Bytes.{over-is-sets, word-put}
 use Rattle.chains.specs.Tally.{tally, tally-head, flat}
 use Rattle.chains.specs.Once.{Once, once-length}
-use Rattle.chains.specs.Addresses.{Shape, adr, adr-zero, adr-pos, adr-small, index-adr, data-adr}
+use Rattle.laws.specs.Addresses.{Shape}
+use Rattle.chains.specs.Addresses.{adr, adr-zero, adr-pos, adr-small, index-adr, data-adr}
 use Rattle.chains.specs.Chain.{first, lastOf, tally-last}
 use Rattle.chains.specs.Walk.{AllData}
 use Rattle.chains.specs.Directory.{Listing}
@@ -31,16 +32,16 @@ module _ (M S : ℕ) (z : Shape M S) where
   -- one data sector
   module _ (x : ℕ) (h : (S ≤ x) × (x < (M + 1) * S)) where
     pub sector-pos : 1 ≤ adr S x
-    sector-pos = adr-pos M S z x (omega (arith, h .0, z .s1)) (h .1)
+    sector-pos = adr-pos M S z x (omega (arith, h .0, z .sectors)) (h .1)
 
     pub sector-small : adr S x < 65536
-    sector-small = adr-small M S z x (omega (arith, h .0, z .s1)) (h .1)
+    sector-small = adr-small M S z x (omega (arith, h .0, z .sectors)) (h .1)
 
     pub sector-index : index S (adr S x) ≡ x
-    sector-index = index-adr M S z x (omega (arith, h .0, z .s1)) (h .1)
+    sector-index = index-adr M S z x (omega (arith, h .0, z .sectors)) (h .1)
 
     pub sector-data : isData M S (adr S x) ≡ true
-    sector-data = data-adr M S z x (omega (arith, h .0, z .s1)) (h .1) (h .0)
+    sector-data = data-adr M S z x (omega (arith, h .0, z .sectors)) (h .1) (h .0)
 
   pub last-data : (l : List ℕ) → AllData M S l → 1 ≤ length l → (S ≤ lastOf l 0) × (lastOf l 0 < (M + 1) * S)
   last-data l g h = g (lastOf l 0) (tally-last l 0 h)
@@ -115,7 +116,7 @@ module _ (M S : ℕ) (z : Shape M S) (ds : List ℕ) (d : Listing S ds) (img tab
     secs-count = omega (arith, both-count)
 
     pub few : length (a .free) + length secs ≤ 2844
-    few = let m : M * S ≤ 79 * 36 = mul-le-mul (z .m2) (z .s2) in omega (arith, both-count, m)
+    few = let m : M * S ≤ 79 * 36 = mul-le-mul (z .most-tracks) (z .most-sectors) in omega (arith, both-count, m)
 
   pub fits : (x : ℕ) → x < (M + 1) * S → 256 * x + 256 ≤ length img
   fits x h = omega (arith, r .shaped .size)

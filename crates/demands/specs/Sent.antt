@@ -14,7 +14,8 @@ use Rattle.rules.specs.Bytes.{pick, wordAt, zeros, within}
 use Rattle.rules.specs.Directory.{live, slotsOf}
 use Rattle.rules.specs.Call.{served, fits}
 use Rattle.rules.specs.Block.{idle}
-use Rattle.chains.specs.Addresses.{Shape, absurd-bool}
+use Rattle.laws.specs.Addresses.{Shape}
+use Rattle.chains.specs.Addresses.{absurd-bool}
 use Rattle.chains.specs.Chain.{contents, setLast, length-contents, empty}
 use Rattle.chains.specs.Directory.{Listing}
 use Rattle.demands.specs.Ledger.{File, noFile, Block, closed, listing, reading, writing, Ledger, Request, Fate, denied, granted, reply, after, Sought, slot, busy, holdsOpen, activity, block, file, onBlock, onFile, withLast, withNew, padTo, taken, transferred, performed, fate}

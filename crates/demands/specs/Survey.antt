@@ -18,7 +18,9 @@ use Rattle.laws.specs.Small.{Small}
 use Rattle.laws.specs.Surveys.{Sane}
 use Rattle.chains.specs.Tally.{tally, tally-append, flat}
 use Rattle.chains.specs.Once.{Once, once-length}
-use Rattle.chains.specs.Addresses.{Shape, Shaped, absurd-bool, pick-both}
+use Rattle.laws.specs.Tests.{both}
+use Rattle.laws.specs.Addresses.{Shape}
+use Rattle.chains.specs.Addresses.{Sized, absurd-bool}
 use Rattle.chains.specs.Chain.{Chain, contents}
 use Rattle.chains.specs.Directory.{Listing, directory-is, directory-sound}
 use Rattle.chains.specs.Walk.{walk, chainAt, length-walk, numbers, numbers-append, numbers-walk, AllData, chain-sound, chain-complete, once-sound, once-complete}
@@ -127,9 +129,9 @@ files-right : (M S : ℕ) (img os : List ℕ) → filesRight img M S os ≡ true
 unfolding filesRight fileRight
 files-right M S img [] h i b v = absurd (omega arith)
 files-right M S img (o ∷ os) h zero b v =
-    let p : pick (live img o) (chainRight img M S (startAt img o) (endAt img o) (sizeAt img o)) true ≡ true = pick-both (fileRight img M S o) (filesRight img M S os) h .0 in
+    let p : pick (live img o) (chainRight img M S (startAt img o) (endAt img o) (sizeAt img o)) true ≡ true = both (fileRight img M S o) (filesRight img M S os) h .0 in
     rw v at p
-files-right M S img (o ∷ os) h (suc i) b v = files-right M S img os (pick-both (fileRight img M S o) (filesRight img M S os) h .1) i (omega arith) v
+files-right M S img (o ∷ os) h (suc i) b v = files-right M S img os (both (fileRight img M S o) (filesRight img M S os) h .1) i (omega arith) v
 
 right-files : (M S : ℕ) (img os : List ℕ) → ((i : ℕ) → i < length os → live img (getD os i 0) ≡ true
     → chainRight img M S (startAt img (getD os i 0)) (endAt img (getD os i 0)) (sizeAt img (getD os i 0)) ≡ true) → filesRight img M S os ≡ true
@@ -153,7 +155,7 @@ flat-data M S (f ∷ fs) g x t = go (tally x (f .secs)) refl (flat-data M S fs (
     go zero e ih = ih (omega (arith, t, e, tally-append x (f .secs) (flat secsOf fs)))
     go (suc c) e ih = g 0 (omega arith) x (omega (arith, e))
 
-module _ (M S : ℕ) (z : Shape M S) (img : List ℕ) (h : Shaped M S img) (small : Small img) (sane : Sane img M S) where
+module _ (M S : ℕ) (z : Shape M S) (img : List ℕ) (h : Sized M S img) (small : Small img) (sane : Sane img M S) where
   abbrev ds : List ℕ
   ds = directory img S
 

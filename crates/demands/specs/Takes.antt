@@ -18,10 +18,12 @@ use Rattle.rules.specs.Outcome.{Outcome, refuse, done, andThen}
 use Rattle.rules.specs.Transfer.{fresh, linked, takeStores, takePuts, takeFor, takeSector, sent, fill}
 use Rattle.laws.specs.Bytes.{word-put, part-is, part-same, length-zeros, zeros-at}
 use Rattle.chains.specs.Tally.{tally, tally-append, tally-head, eq1-same, apart}
-use Rattle.chains.specs.Addresses.{Shape, adr, adr-zero, absurd-bool}
+use Rattle.laws.specs.Addresses.{Shape}
+use Rattle.chains.specs.Addresses.{adr, adr-zero, absurd-bool}
 use Rattle.chains.specs.Chain.{first, lastOf, Seg, Chain, contents, tally-last, not-in, last-snoc, seg-same, seg-hang, contents-same, contents-append}
 use Rattle.chains.specs.Directory.{Listing}
-use Rattle.chains.specs.Stored.{placeAt, bytesOf, noStore, Off, fieldOf, valuesOf, noPut, Clear, length-stored, stored-off, stored-at, puts-clear, puts-at, length-fresh, fresh-link, fresh-data, length-snoc}
+use Rattle.laws.specs.Stores.{length-stored}
+use Rattle.chains.specs.Stored.{placeAt, bytesOf, noStore, Off, fieldOf, valuesOf, noPut, Clear, stored-off, stored-at, puts-clear, puts-at, length-fresh, fresh-link, fresh-data, length-snoc}
 use Rattle.chains.specs.Frame.{Frame, framed, Lies, in-record, in-sector, in-slot, of-nothing}
 use Rattle.demands.specs.Ledger.{File, noFile, Block, closed, listing, reading, writing, Ledger, Request, Fate, denied, granted, onBlock, onFile, withLast, withNew, padTo, taken, transferred}
 use Rattle.demands.specs.Relation.{tb, t2, tp, opens, writes, secsOf, Holds, Writing, Keeps, Agrees, t2-same, tp-same, Turn, step, long, all-high}
@@ -121,7 +123,7 @@ module _ (M S : ℕ) (z : Shape M S) (ds : List ℕ) (d : Listing S ds) (img tab
   -- a data sector
   sector : (j i : ℕ) → S ≤ j → j ≢ k → i < 256 → (1 ≤ length l → j ≡ lastOf l 0 → 2 ≤ i) → getD img′ (256 * j + i) 0 ≡ getD img (256 * j + i) 0
   sector j i b ne d g =
-      keep (256 * j + i) (λ u v. omega (arith, z .s1)) (λ u v. omega (arith, ne))
+      keep (256 * j + i) (λ u v. omega (arith, z .sectors)) (λ u v. omega (arith, ne))
       (λ o u v. let q : j ≡ lastOf l 0 = omega arith in omega (arith, g o q)) (λ u v. omega (arith, ohigh))
 
   in-l : (j : ℕ) → 1 ≤ tally j l → j ≢ k
@@ -137,7 +139,7 @@ module _ (M S : ℕ) (z : Shape M S) (ds : List ℕ) (d : Listing S ds) (img tab
   frame : Frame S ds img img′ (k ∷ l) s
   unfolding six
   frame =
-      framed S (z .s1) ds d s hs img (k ∷ l) takeS (
+      framed S (z .sectors) ds d s hs img (k ∷ l) takeS (
         in-record _ refl,
         (
           in-sector k 0 (fresh (length l + 1)) klow (tally-head k l) (omega (arith, length-fresh (length l + 1))),
@@ -148,7 +150,7 @@ module _ (M S : ℕ) (z : Shape M S) (ds : List ℕ) (d : Listing S ds) (img tab
   -- the records of free chain and slot
   slotoff : (p : ℕ) → p < 1024 → Off p (drop 1 takeS)
   unfolding six
-  slotoff p b = ((λ u v. omega (arith, klow, z .s1)), (third p (λ o u v. omega (arith, ql o, z .s1)), ((λ u v. omega (arith, olow)), tt)))
+  slotoff p b = ((λ u v. omega (arith, klow, z .sectors)), (third p (λ o u v. omega (arith, ql o, z .sectors)), ((λ u v. omega (arith, olow)), tt)))
 
   fr-data : AllData M S fr
   fr-data x t = free-data M S z ds d img tab a r x (omega (arith, ap (tally x) ef))

@@ -18,7 +18,8 @@ use Rattle.laws.specs.Bytes.{part-is}
 use Rattle.laws.specs.Surveys.{Sane, census-accepts}
 use Rattle.chains.specs.Tally.{tally, flat}
 use Rattle.chains.specs.Once.{Once, once-length}
-use Rattle.chains.specs.Addresses.{Shape, Shaped}
+use Rattle.laws.specs.Addresses.{Shape}
+use Rattle.chains.specs.Addresses.{Sized}
 use Rattle.chains.specs.Chain.{contents}
 use Rattle.chains.specs.Directory.{Listing, directory-is}
 use Rattle.chains.specs.Walk.{numbers, length-numbers, tally-is, each-sound, once-complete}
@@ -59,8 +60,8 @@ module _ (M S : ℕ) (z : Shape M S) (ds : List ℕ) (d : Listing S ds) (y : Mac
       ∙ ap (λ (v : ℕ). survey 0 (listed (y .img) v) (owners (y .img) v)) s
       ∙ ap₂ (λ (u v : List ℕ). survey 0 u v) (lists .0) (lists .1)
     where
-      shape-here : lastTrack (y .img) ≡ M → perTrack (y .img) ≡ S → Rattle.laws.specs.Addresses.Shape (lastTrack (y .img)) (perTrack (y .img))
-      shape-here m s = rw (m, s) (record { tracks = z .m1; most-tracks = z .m2; sectors = z .s1; most-sectors = z .s2 })
+      shape-here : lastTrack (y .img) ≡ M → perTrack (y .img) ≡ S → Shape (lastTrack (y .img)) (perTrack (y .img))
+      shape-here m s = rw (m, s) z
 
       size-here : lastTrack (y .img) ≡ M → perTrack (y .img) ≡ S → 256 * ((M + 1) * S) ≡ (lastTrack (y .img) + 1) * perTrack (y .img) * 256
       size-here m s = rw (m, s) (omega arith)
