@@ -1,20 +1,19 @@
 -- A sector's index and its address, a number of two bytes. The address of index 0 is 0, which ends a chain.
-use mathlib.Core.Path.{_≡_, refl, sym, ap, _∙_, subst}
-use mathlib.Core.Logic.{_≢_}
+use mathlib.Core.Path.{_≡_, refl, sym, ap, _∙_}
 use mathlib.Core.Bool.{Bool, true, false}
 use mathlib.Core.List.{List}
 use Prim.Native.Nat.{ℕ, zero, suc, _+_, _-_, _*_, _/_, _%_, _≤_, _<_}
 use native.Mathlib.Nat.{div-add-mod', mod-lt, mul-le-mul-right, div-lt-iff-lt-mul}
 use native.Mathlib.Omega.{arith}
-use lib.ListN.{length, getD}
+use lib.ListN.{length}
 use lib.Arith.{digits-div, digits-mod, digits-lt}
-use lib.Dec.{eqb, ltb, leb}
-use borrow.Author.Tests.{le-leb, lt-leb, lt-ltb, le-ltb, eq-eqb, ne-eqb, leb-true, eqb-true}
-use Rattle.rules.specs.Bytes.{pick, within, wordAt, byteAt}
+use lib.Dec.{eqb}
+use borrow.Author.Tests.{eqb-true}
+use Rattle.rules.specs.Bytes.{within}
 use Rattle.rules.specs.Image.{index, isData, shapeRight, lastTrack, perTrack}
 use Rattle.rules.specs.Directory.{isDirectory}
 use Rattle.laws.specs.Tests.{both, within-is, within-true}
-use Rattle.laws.specs.Addresses.{Shape, Shaped, shape-true}
+use Rattle.laws.specs.Addresses.{Shape, shape-true}
 
 -- ---- tests
 

@@ -1,14 +1,13 @@
 -- Chains: sectors that are linked one to the next, and the bytes that they hold.
-use mathlib.Core.Path.{_≡_, refl, sym, ap, ap₂, _∙_, subst}
+use mathlib.Core.Path.{_≡_, refl, ap, ap₂, _∙_, subst}
 use mathlib.Core.Logic.{_≢_}
-use mathlib.Core.Bool.{Bool, true, false}
 use mathlib.Core.List.{List, [], _∷_, _++_}
-use Prim.Native.Nat.{ℕ, zero, suc, _+_, _-_, _*_, _/_, _%_, _≤_, _<_}
+use Prim.Native.Nat.{ℕ, zero, suc, _+_, _*_, _≤_, _<_}
 use native.Mathlib.Omega.{arith}
-use lib.ListN.{length, getD, length-append}
+use lib.ListN.{length, getD}
 use Rattle.rules.specs.Bytes.{wordAt, part}
 use Rattle.laws.specs.Bytes.{word-same, part-same}
-use Rattle.chains.specs.Tally.{tally, tally-append, tally-head, eq1, eq1-same, eq1-ne, eq1-pos}
+use Rattle.chains.specs.Tally.{tally, tally-head, eq1, eq1-same, eq1-pos}
 use Rattle.chains.specs.Addresses.{adr}
 
 -- the first and the last of a list, x if it is empty

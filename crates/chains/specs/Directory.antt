@@ -1,5 +1,5 @@
 -- The directory as a chain of sectors of track 0; its slots, and the places that name them.
-use mathlib.Core.Path.{_≡_, refl, sym, ap, ap₂, _∙_, subst}
+use mathlib.Core.Path.{_≡_, refl, sym, ap, _∙_, subst}
 use mathlib.Core.Logic.{_≢_}
 use mathlib.Core.Bool.{Bool, true, false}
 use mathlib.Core.List.{List, [], _∷_, _++_}
@@ -8,21 +8,18 @@ use native.Mathlib.Omega.{arith}
 use native.Mathlib.Decide.{ℕ-discrete, decLt}
 use lib.ListN.{length, getD, length-append, List·getD-append}
 use lib.Seq.{getD-append-add}
-use lib.Dec.{eqb, leb, ltb}
-use borrow.Author.Tests.{le-leb, lt-ltb, le-ltb, eq-eqb, ne-eqb, eqb-true, eqb-false}
+use lib.Dec.{eqb, ltb}
+use borrow.Author.Tests.{lt-ltb, le-ltb, eq-eqb, ne-eqb, eqb-true}
 use Rattle.rules.specs.Bytes.{pick, within, byteAt, wordAt, part, same}
 use Rattle.rules.specs.Image.{index, linkOf}
-use Rattle.rules.specs.Directory.{isDirectory, stepTo, nextOf, onNext, ends, directoryRight, sectorsFrom, directory, slotsAt, slotsOf, slots, firstSlotOf, member, isDisplacement, placed, placeOf, slotBehind, mostOfDirectory, firstOfDirectory}
-use Rattle.rules.specs.declared.Next.{Next}
+use Rattle.rules.specs.Directory.{isDirectory, stepTo, nextOf, onNext, ends, directoryRight, sectorsFrom, directory, slotsAt, slotsOf, firstSlotOf, member, isDisplacement, placed, placeOf, slotBehind}
 use Rattle.rules.specs.declared.Next.the-variants.{End, To, Astray}
-use Rattle.rules.specs.declared.Lookup.{Lookup}
 use Rattle.rules.specs.declared.Lookup.the-variants.{At, Missing, Broken}
 use Rattle.laws.specs.Bytes.{same-refl, same-eq, part-at}
-use Rattle.laws.specs.Tests.{pick-cases}
 use Rattle.chains.specs.Tally.{tally, tally-head, eq1, eq1-same, eq1-ne}
-use Rattle.laws.specs.Tests.{both, within-true}
+use Rattle.laws.specs.Tests.{within-true}
 use Rattle.laws.specs.Addresses.{Shape}
-use Rattle.chains.specs.Addresses.{absurd-bool, adr, adr-zero, adr-is, adr-pos, index-adr, directory-adr, directory-index}
+use Rattle.chains.specs.Addresses.{absurd-bool, adr, adr-zero, adr-pos, index-adr, directory-adr, directory-index}
 use Rattle.chains.specs.Chain.{first, Seg, seg-at, tally-getD}
 
 -- ---- one place, one chain: what is linked from a sector on to the end is told by the sector

@@ -1,14 +1,11 @@
 -- Each number of a range stands once in a list: by counting, not by permutations.
-use mathlib.Core.Path.{_≡_, refl, sym, ap, ap₂, _∙_, subst}
-use mathlib.Core.Logic.{_≢_}
-use mathlib.Core.Bool.{Bool, true, false, _&&_}
-use mathlib.Core.List.{List, [], _∷_, _++_}
-use Prim.Native.Nat.{ℕ, zero, suc, _+_, _-_, _*_, _≤_, _<_}
+use mathlib.Core.Path.{_≡_, refl, sym, ap, _∙_}
+use mathlib.Core.List.{List, [], _∷_}
+use Prim.Native.Nat.{ℕ, zero, suc, _+_, _≤_, _<_}
 use native.Mathlib.Omega.{arith}
-use lib.ListN.{length, getD}
-use lib.Dec.{T, eqb, leb, ltb, leb→le, le→leb, eqb→eq, eqb-refl}
-use Rattle.chains.specs.Tally.{tally, bit, eq1, eq1-same, eq1-ne, eq1-pos, tally-append, tally-head}
-use native.Mathlib.Decide.{decLt, ℕ-discrete}
+use lib.ListN.{length}
+use Rattle.chains.specs.Tally.{tally, eq1, eq1-same, eq1-ne, tally-head}
+use native.Mathlib.Decide.{ℕ-discrete}
 
 -- each number from lo up to, not including, hi stands once in l, and no other does
 pub record Once (lo hi : ℕ) (l : List ℕ) : Type 0 where

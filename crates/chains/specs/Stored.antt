@@ -1,12 +1,12 @@
 -- What stands where after a list of stores, in the image and in the table.
-use mathlib.Core.Path.{_≡_, refl, sym, ap, ap₂, _∙_, subst}
+use mathlib.Core.Path.{_≡_, refl, ap, _∙_, subst}
 use mathlib.Core.Logic.{_≢_}
 use mathlib.Core.List.{List, [], _∷_, _++_}
-use Prim.Native.Nat.{ℕ, zero, suc, _+_, _-_, _*_, _/_, _%_, _≤_, _<_}
+use Prim.Native.Nat.{ℕ, zero, suc, _+_, _*_, _/_, _%_, _≤_, _<_}
 use native.Mathlib.Omega.{arith}
-use lib.ListN.{length, getD, set, drop, replicate, length-set, length-append}
-use lib.Seq.{getD-set-same, getD-set-other}
-use Rattle.rules.specs.Bytes.{wordAt, part, over, one, two, six, zeros}
+use lib.ListN.{length, getD, set, drop, length-set, length-append}
+use lib.Seq.{getD-set-other}
+use Rattle.rules.specs.Bytes.{over, zeros}
 use Rattle.rules.specs.Stores.{Store, store, stored, Put, put, puts}
 use Rattle.rules.specs.Transfer.{fresh}
 use Rattle.laws.specs.Bytes.{length-over, over-other, over-in, length-zeros, zeros-at}

@@ -1,19 +1,18 @@
 -- The census's walk along a chain, and its count of each data sector: sound and complete for chains as lists.
 use mathlib.Core.Path.{_≡_, refl, sym, ap, ap₂, _∙_, subst}
-use mathlib.Core.Logic.{_≢_}
-use mathlib.Core.Bool.{Bool, true, false}
+use mathlib.Core.Bool.{true}
 use mathlib.Core.List.{List, [], _∷_, _++_}
-use Prim.Native.Nat.{ℕ, zero, suc, _+_, _-_, _*_, _/_, _%_, _≤_, _<_}
+use Prim.Native.Nat.{ℕ, zero, suc, _+_, _-_, _*_, _≤_, _<_}
 use native.Mathlib.Omega.{arith}
 use native.Mathlib.Decide.{ℕ-discrete}
-use lib.ListN.{length, getD}
+use lib.ListN.{length}
 use lib.Dec.{eqb, leb}
 use borrow.Author.Tests.{eq-eqb, ne-eqb, eqb-true, le-leb}
 use Rattle.rules.specs.Bytes.{pick, wordAt}
 use Rattle.rules.specs.Image.{index, isData, linkOf}
 use Rattle.rules.specs.Census.{runsOut, chainRight, numbersFrom, eachOnce}
 use Rattle.laws.specs.Small.{Small, small-word}
-use Rattle.chains.specs.Tally.{tally, tally-append, tally-head, bit, eq1, eq1-same, eq1-ne}
+use Rattle.chains.specs.Tally.{tally, tally-head, bit, eq1, eq1-same, eq1-ne}
 use Rattle.chains.specs.Once.{Once}
 use Rattle.laws.specs.Tests.{both}
 use Rattle.laws.specs.Addresses.{Shape}

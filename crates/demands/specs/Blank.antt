@@ -1,15 +1,13 @@
 -- Not empty: the blank diskette of five sectors a track is a start, and calls on it are accepted.
-use mathlib.Core.Path.{_≡_, refl, sym, ap, _∙_, subst}
-use mathlib.Core.Bool.{Bool, true, false}
-use mathlib.Core.List.{List, [], _∷_, _++_}
-use Prim.Native.Nat.{ℕ, zero, suc, _+_, _*_, _≤_, _<_}
+use mathlib.Core.Path.{_≡_, refl}
+use mathlib.Core.List.{List, [], _∷_}
+use Prim.Native.Nat.{ℕ}
 use native.Mathlib.Omega.{arith}
-use lib.ListN.{length, getD, replicate}
-use Rattle.rules.specs.Bytes.{over, one, two, six, zeros}
+use Rattle.rules.specs.Bytes.{two, six, zeros}
 use Rattle.rules.specs.Stores.{Store, store, stored}
 use Rattle.rules.specs.All.{rules}
 use Rattle.laws.specs.Small.{Small, small-zeros, small-over, small-six, small-two, small-each}
-use Rattle.demands.specs.Service.{Service, flex, Call, setting, extending, asking, Machine, Entry, answers, gave, next, entry, run, log}
+use Rattle.demands.specs.Service.{flex, Call, setting, asking, Machine, Entry, next, entry, log}
 use Rattle.demands.specs.Demands.{Start}
 
 -- M = 1, S = 5, free 1,1 to 1,5: information record, M and S, the links of the free chain

@@ -1,30 +1,29 @@
 -- THE CALL: every call's effect is what its fate says. Preset and default extension leave the ledger.
-use mathlib.Core.Path.{_≡_, refl, sym, ap, ap₂, _∙_, subst}
+use mathlib.Core.Path.{_≡_, refl, sym, ap, _∙_, subst}
 use mathlib.Core.Logic.{_≢_}
 use mathlib.Core.Bool.{Bool, true, false}
-use mathlib.Core.List.{List, [], _∷_, _++_}
-use Prim.Native.Nat.{ℕ, zero, suc, _+_, _-_, _*_, _/_, _%_, _≤_, _<_}
+use mathlib.Core.List.{List, [], _∷_}
+use Prim.Native.Nat.{ℕ, zero, suc, _+_, _*_, _≤_, _<_}
 use native.Mathlib.Omega.{arith}
 use native.Mathlib.Decide.{ℕ-discrete}
-use lib.ListN.{length, getD, set}
-use lib.Dec.{eqb, ltb, leb}
+use lib.ListN.{length, getD}
+use lib.Dec.{eqb, ltb}
 use borrow.Author.Tests.{ne-eqb, eq-eqb, eqb-true, eqb-false, lt-ltb, ltb-true}
-use Rattle.rules.specs.Bytes.{pick, within, one, zeros}
-use Rattle.rules.specs.Stores.{Put, put, stored, puts}
-use Rattle.rules.specs.Image.{shapeRight, lastTrack, perTrack}
+use Rattle.rules.specs.Bytes.{pick, within, one}
+use Rattle.rules.specs.Stores.{put, stored, puts}
 use Rattle.rules.specs.Directory.{slotsOf}
-use Rattle.rules.specs.Outcome.{Outcome, refuse, done, Effect, effect, settled, onImage, onBlock}
+use Rattle.rules.specs.Outcome.{Outcome, Effect, onImage, onBlock}
 use Rattle.rules.specs.Block.{idle, activityIn, presettable, presetIn, preset, extensions, extensionIn, extension}
 use Rattle.rules.specs.Transfer.{transfer}
 use Rattle.rules.specs.Call.{served, fits, misfit, checked, perform, asked, call}
 use Rattle.laws.specs.Tests.{pick-cases}
-use Rattle.laws.specs.Tests.{both, within-is}
+use Rattle.laws.specs.Tests.{within-is}
 use Rattle.laws.specs.Addresses.{Shape}
-use Rattle.chains.specs.Addresses.{Sized, shape-right, absurd-bool}
+use Rattle.chains.specs.Addresses.{shape-right, absurd-bool}
 use Rattle.chains.specs.Directory.{Listing}
-use Rattle.chains.specs.Stored.{Clear, Inside, puts-clear}
-use Rattle.demands.specs.Ledger.{File, noFile, Block, closed, listing, reading, writing, Ledger, Request, Fate, denied, granted, activity, block, transferred, shutBlock, rewound, shownNext, performed, fate}
-use Rattle.demands.specs.Relation.{tb, tp, opens, Reading, Writing, Listed, Keeps, Agrees, tp-same}
+use Rattle.chains.specs.Stored.{puts-clear}
+use Rattle.demands.specs.Ledger.{noFile, Block, closed, listing, reading, writing, Ledger, Request, Fate, activity, block, transferred, shutBlock, rewound, shownNext, performed, fate}
+use Rattle.demands.specs.Relation.{tb, opens, Reading, Writing, Keeps, Agrees, tp-same}
 use Rattle.demands.specs.Quiet.{turned, activity-is, quiet, idle-quiet, idle-opens}
 use Rattle.demands.specs.Meets.{request, Meets, meets-pick, meets-unless, Met, settles}
 use Rattle.demands.specs.Reads.{read-meets, rewind-meets}

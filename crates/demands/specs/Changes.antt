@@ -1,32 +1,29 @@
 -- What an accepted call changes in the ledger; and what it leaves: other blocks, their files, files that no delete and no rename names.
-use mathlib.Core.Path.{_≡_, refl, sym, ap, ap₂, _∙_, subst}
+use mathlib.Core.Path.{_≡_, refl, sym, ap, _∙_, subst}
 use mathlib.Core.Logic.{_≢_}
 use mathlib.Core.Bool.{Bool, true, false}
 use mathlib.Core.List.{List, [], _∷_, _++_}
-use Prim.Native.Nat.{ℕ, zero, suc, _+_, _-_, _*_, _/_, _%_, _≤_, _<_}
+use Prim.Native.Nat.{ℕ, suc, _≤_, _<_}
 use native.Mathlib.Omega.{arith}
 use native.Mathlib.Decide.{ℕ-discrete}
 use lib.ListN.{length, getD, set, length-set}
-use lib.Seq.{getD-set-same, getD-set-other, set-getD}
+use lib.Seq.{getD-set-same, getD-set-other}
 use lib.Dec.{eqb, ltb}
-use borrow.Author.Tests.{eq-eqb, ne-eqb, eqb-true, eqb-false}
-use Rattle.rules.specs.Bytes.{pick, within, part}
+use borrow.Author.Tests.{eqb-true, eqb-false}
+use Rattle.rules.specs.Bytes.{pick, within}
 use Rattle.rules.specs.Image.{isSector}
 use Rattle.rules.specs.Names.{legal}
 use Rattle.rules.specs.Directory.{live, named, vacant, neverUsed, slotsOf}
 use Rattle.rules.specs.Files.{writeProtected, deleteProtected}
 use Rattle.rules.specs.Call.{served, fits}
 use Rattle.laws.specs.Tests.{pick-cases, pick-all}
-use Rattle.laws.specs.Bytes.{length-part}
 use Rattle.laws.specs.Tests.{within-is}
-use Rattle.laws.specs.Addresses.{Shape}
 use Rattle.chains.specs.Addresses.{absurd-bool}
-use Rattle.chains.specs.Directory.{Listing}
-use Rattle.demands.specs.Ledger.{File, noFile, Block, closed, listing, reading, writing, Ledger, Request, Fate, denied, granted, after, Sought, nowhere, slot, onSought, seek, fileNamed, vacantSlot, busy, activity, block, file, attributes, onBlock, onFile, withLast, withNew, withMark, withName, newFile, padTo, taken, transferred, openedToRead, openedToWrite, shutBlock, rewound, shownNext, deleted, renamed, performed, fate}
-use Rattle.demands.specs.Relation.{opens, writes, Reading, Writing, Keeps, Agrees}
-use Rattle.demands.specs.Searches.{Sat, slot-same, seek-found, Named, named-hit, vacant-hit, marked-dead}
+use Rattle.demands.specs.Ledger.{File, noFile, Block, closed, listing, reading, writing, Ledger, Request, Fate, denied, granted, Sought, nowhere, slot, onSought, fileNamed, vacantSlot, busy, activity, block, file, attributes, onBlock, onFile, withMark, withName, newFile, taken, transferred, openedToRead, openedToWrite, shutBlock, rewound, shownNext, deleted, renamed, performed, fate}
+use Rattle.demands.specs.Relation.{opens, writes, Keeps, Agrees}
+use Rattle.demands.specs.Searches.{slot-same, seek-found, named-hit, vacant-hit, marked-dead}
 use Rattle.demands.specs.Opens.{legal-live}
-use Rattle.demands.specs.Tidy.{nameOf, Tidy, live-used, tidy-set, found-none, found-there, room-before}
+use Rattle.demands.specs.Tidy.{nameOf, Tidy, live-used, tidy-set, found-none, room-before}
 
 -- ---- the kinds of change
 

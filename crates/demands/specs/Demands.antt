@@ -1,25 +1,23 @@
 -- THE THREE DEMANDS, as predicates over services.
 use mathlib.Core.Path.{_≡_}
 use mathlib.Core.Logic.{_≢_}
-use mathlib.Core.Bool.{Bool, true, false}
+use mathlib.Core.Bool.{true}
 use mathlib.Core.List.{List, [], _∷_, _++_}
-use Prim.Native.Nat.{ℕ, zero, suc, _+_, _-_, _*_, _/_, _%_, _≤_, _<_}
+use Prim.Native.Nat.{ℕ, _+_, _-_, _*_, _/_, _%_, _≤_, _<_}
 use lib.ListN.{length, getD, replicate}
-use lib.Dec.{eqb, ltb}
-use Rattle.rules.specs.Bytes.{pick, byteAt, part, over, one, zeros}
+use Rattle.rules.specs.Bytes.{byteAt, part, over, one, zeros}
 use Rattle.rules.specs.Image.{lastTrack, perTrack}
 use Rattle.rules.specs.Names.{legal}
 use Rattle.rules.specs.Directory.{live, slots, sizeAt, member}
-use Rattle.rules.specs.Outcome.{Out, out}
+use Rattle.rules.specs.Outcome.{out}
 use Rattle.rules.specs.Block.{idle, presettable}
 use Rattle.rules.specs.Census.{Survey, survey, census}
 use Rattle.laws.specs.Small.{Small}
 use Rattle.laws.specs.Effects.{answerNumbers, presetNumbers, extensionNumbers}
 use Rattle.laws.specs.Surveys.{surveyNumbers}
 use Rattle.demands.specs.Ledger.{Ledger, activity, block, nowhere, slot, fileNamed, vacantSlot}
-use Rattle.demands.specs.Meets.{request}
 use Rattle.demands.specs.Survey.{ledgerOf, ledgerNumbers, ledgerOwners, fileAt}
-use Rattle.demands.specs.Service.{Service, Reply, replied, saysOf, tableOf, ansOf, byteOf, imgOf, tabOf, Call, setting, extending, asking, Machine, Entry, answers, next, entry, run, log}
+use Rattle.demands.specs.Service.{Service, replied, saysOf, tableOf, ansOf, byteOf, imgOf, tabOf, Call, setting, extending, asking, Machine, answers, next, entry, run, log}
 use Rattle.demands.specs.History.{history, Told, shown, filesOn, Unnamed, Survives, nameThen, Only, sentBy, Reads}
 
 -- ---- the start

@@ -1,22 +1,21 @@
 -- Services that do not meet the demands: each is ours with one entry changed. Refuted on the blank diskette.
-use mathlib.Core.Path.{_≡_, refl, sym, ap, _∙_, subst}
-use mathlib.Core.Logic.{_≢_}
-use mathlib.Core.Bool.{Bool, true, false}
+use mathlib.Core.Path.{_≡_, refl, ap}
+use mathlib.Core.Bool.{Bool, false}
 use mathlib.Core.List.{List, [], _∷_, _++_}
-use Prim.Native.Nat.{ℕ, zero, suc, _+_, _-_, _*_, _/_, _%_, _≤_, _<_}
+use Prim.Native.Nat.{ℕ, zero, suc, _+_, _*_}
 use native.Mathlib.Omega.{arith}
-use lib.ListN.{length, getD, replicate}
+use lib.ListN.{length, getD}
 use lib.Dec.{eqb}
 use Rattle.rules.specs.Bytes.{pick, byteAt, over, one, zeros}
 use Rattle.rules.specs.Outcome.{Out, out}
 use Rattle.rules.specs.Census.{Survey, survey}
 use Rattle.rules.specs.All.{rules}
 use Rattle.chains.specs.Walk.{walk}
-use Rattle.demands.specs.Ledger.{Ledger, seek, busy, padTo, openedToRead, openedToWrite, deleted, renamed, performed, fate}
+use Rattle.demands.specs.Ledger.{seek, openedToWrite, performed, fate}
 use Rattle.demands.specs.Survey.{ledgerOf, fileAt, filesAt}
-use Rattle.demands.specs.Service.{Service, flex, Reply, replied, saysOf, Call, setting, extending, asking, Machine, Entry, answers, gave, next, entry, run, log}
+use Rattle.demands.specs.Service.{Service, flex, replied, saysOf, Call, setting, asking, next, entry, run, log}
 use Rattle.demands.specs.History.{history, sentBy, nameThen}
-use Rattle.demands.specs.Demands.{Start, told, Demand2, Demand3, Asks, Created, WrittenTo, ClosedWith, ReadBack, surveyFirst, surveySecond}
+use Rattle.demands.specs.Demands.{told, Demand2, Demand3, Created, surveyFirst, surveySecond}
 use Rattle.demands.specs.Blank.{blank, blankImage, blankStores, blank-start}
 
 -- ---- the fakes

@@ -1,38 +1,34 @@
 -- A byte written inside a sector; the last sector of a file stored; close.
 use mathlib.Core.Path.{_≡_, refl, sym, ap, ap₂, _∙_, subst}
 use mathlib.Core.Logic.{_≢_}
-use mathlib.Core.Bool.{Bool, true, false}
+use mathlib.Core.Bool.{true}
 use mathlib.Core.List.{List, [], _∷_, _++_}
-use Prim.Native.Nat.{ℕ, zero, suc, _+_, _-_, _*_, _/_, _%_, _≤_, _<_}
+use Prim.Native.Nat.{ℕ, _+_, _*_, _%_, _≤_, _<_}
 use native.Mathlib.Omega.{arith}
-use native.Mathlib.Decide.{ℕ-discrete, decLt}
-use lib.ListN.{length, getD, set, drop, length-set}
-use lib.Seq.{getD-set-same, getD-set-other}
-use lib.Dec.{eqb, ltb}
-use borrow.Author.Tests.{ne-eqb, eq-eqb, le-ltb, eqb-false, eqb-true}
-use Rattle.rules.specs.Bytes.{pick, byteAt, wordAt, part, one, two}
+use native.Mathlib.Decide.{ℕ-discrete}
+use lib.ListN.{length, getD, set}
+use lib.Seq.{getD-set-same}
+use lib.Dec.{eqb}
+use borrow.Author.Tests.{ne-eqb, eq-eqb, eqb-false, eqb-true}
+use Rattle.rules.specs.Bytes.{part, one}
 use Rattle.rules.specs.Stores.{Store, store, stored, Put, put, puts}
-use Rattle.rules.specs.Image.{index, isData}
-use Rattle.rules.specs.Directory.{slotsOf, live, placed}
-use Rattle.rules.specs.Outcome.{Outcome, refuse, done, onSlot}
-use Rattle.rules.specs.Transfer.{slotIn, sent, fill, shut, mark, closeWriting, close}
-use Rattle.rules.specs.declared.Lookup.the-variants.{At, Missing, Broken}
-use Rattle.laws.specs.Bytes.{word-put, word-same, part-at, part-is, part-same, length-part, length-one, length-two}
+use Rattle.rules.specs.Directory.{slotsOf, live}
+use Rattle.rules.specs.Transfer.{slotIn, shut, mark, closeWriting, close}
+use Rattle.rules.specs.declared.Lookup.the-variants.{At}
+use Rattle.laws.specs.Bytes.{part-is, part-same}
 use Rattle.chains.specs.Tally.{tally, tally-head}
 use Rattle.laws.specs.Addresses.{Shape}
-use Rattle.chains.specs.Addresses.{adr, adr-zero}
-use Rattle.chains.specs.Chain.{first, lastOf, Chain, contents, setLast, contents-last, tally-last, chain-same, not-in, in-one, empty, length-contents}
-use Rattle.chains.specs.Directory.{Listing, Spot, spot, placed-spot}
-use Rattle.laws.specs.Stores.{length-stored}
+use Rattle.chains.specs.Addresses.{adr}
+use Rattle.chains.specs.Chain.{first, lastOf, Chain, setLast, contents-last, tally-last, chain-same, in-one, empty}
+use Rattle.chains.specs.Directory.{Listing, spot, placed-spot}
 use Rattle.chains.specs.Stored.{stored-off, stored-at, puts-clear, puts-at, snoc-other, snoc-last, length-snoc}
 use Rattle.chains.specs.Frame.{Frame, framed, in-sector}
-use Rattle.demands.specs.Ledger.{File, noFile, Block, closed, listing, reading, writing, Ledger, Request, Fate, denied, granted, file, onBlock, onFile, withLast, withMark, padTo, shutBlock}
-use Rattle.demands.specs.Relation.{tb, t2, tp, opens, writes, secsOf, Holds, Reading, Writing, Listed, Keeps, Agrees, t2-same, tp-same, Turn, step}
+use Rattle.demands.specs.Ledger.{File, noFile, Block, closed, listing, reading, writing, Ledger, Request, onBlock, onFile, withLast, padTo, shutBlock}
+use Rattle.demands.specs.Relation.{tb, t2, opens, writes, Holds, Reading, Writing, Listed, Keeps, Agrees, t2-same, tp-same, Turn, step}
 use Rattle.demands.specs.Quiet.{turned, on-block, shut-block, alone1, alone2, nobody}
 use Rattle.demands.specs.Meets.{Meets, meets-pick}
-use Rattle.chains.specs.Walk.{AllData}
-use Rattle.demands.specs.Sectors.{secs-data, secs-once, free-data, fits, sector-data, sector-index, last-data, last-none, length-pad, pad-at}
-use Rattle.demands.specs.Marks.{slot-low, slot-high, mark-step}
+use Rattle.demands.specs.Sectors.{secs-data, secs-once, fits, sector-data, sector-index, last-data, last-none, length-pad, pad-at}
+use Rattle.demands.specs.Marks.{slot-high, mark-step}
 
 pub one-is : (v : ℕ) → one v ≡ v ∷ []
 unfolding one

@@ -1,19 +1,17 @@
 -- DEMAND 1 of our service; and that no second outcome fits a promise.
-use mathlib.Core.Path.{_≡_, refl, sym, ap, ap₂, _∙_, subst}
+use mathlib.Core.Path.{_≡_, refl, sym, ap, _∙_}
 use mathlib.Core.Logic.{_≢_}
-use mathlib.Core.List.{List, [], _∷_, _++_}
-use Prim.Native.Nat.{ℕ, zero, suc, _+_, _*_, _≤_, _<_}
-use lib.ListN.{length, getD}
-use Rattle.rules.specs.Bytes.{byteAt}
-use Rattle.rules.specs.Stores.{Store, stored, Put, puts}
-use Rattle.rules.specs.Outcome.{Effect, effect, answer, given, onImage, onBlock, Out, out}
+use mathlib.Core.List.{List, []}
+use Prim.Native.Nat.{ℕ}
+use Rattle.rules.specs.Stores.{stored, puts}
+use Rattle.rules.specs.Outcome.{answer, Out}
 use Rattle.rules.specs.Block.{blockAt, preset, extension}
 use Rattle.rules.specs.Call.{call}
 use Rattle.rules.specs.Census.{Survey, survey, census}
 use Rattle.rules.specs.Text.{Told, errorText}
-use Rattle.laws.specs.Effects.{Lawful, Refused, lengths-kept, call-lawful, call-wrong, preset-quiet, extension-quiet}
+use Rattle.laws.specs.Effects.{Refused, lengths-kept, call-lawful, call-wrong, preset-quiet, extension-quiet}
 use Rattle.laws.specs.Surveys.{Surveyed, census-is}
-use Rattle.demands.specs.Service.{Service, flex, leaves, Reply}
+use Rattle.demands.specs.Service.{flex, leaves, Reply}
 use Rattle.demands.specs.Demands.{Demand1, dataSectors, surveyAnswer, surveyFirst, surveySecond}
 
 refused : (img tab : List ℕ) (n b : ℕ) → answer (call img tab n b) ≢ 0 → Refused tab (blockAt n) (call img tab n b)

@@ -1,9 +1,8 @@
 -- What a block that reads gets, whatever other blocks do.
-use mathlib.Core.Path.{_≡_, refl, sym, ap, ap₂, _∙_, subst}
+use mathlib.Core.Path.{_≡_, refl, sym, ap, _∙_, subst}
 use mathlib.Core.Logic.{_≢_}
-use mathlib.Core.Bool.{Bool, true, false}
-use mathlib.Core.List.{List, [], _∷_, _++_}
-use Prim.Native.Nat.{ℕ, zero, suc, _+_, _-_, _*_, _/_, _%_, _≤_, _<_}
+use mathlib.Core.List.{List, [], _∷_}
+use Prim.Native.Nat.{ℕ, zero, suc, _+_, _-_, _*_, _%_, _≤_, _<_}
 use native.Mathlib.Omega.{arith}
 use native.Mathlib.Decide.{ℕ-discrete, decLt}
 use lib.ListN.{length, getD, set, length-append, List·getD-append, List·getD-eq-default}
@@ -16,13 +15,13 @@ use Rattle.laws.specs.Bytes.{length-part}
 use Rattle.laws.specs.Addresses.{Shape}
 use Rattle.chains.specs.Chain.{contents}
 use Rattle.chains.specs.Directory.{Listing}
-use Rattle.demands.specs.Ledger.{File, noFile, Block, closed, listing, reading, writing, Ledger, Request, Fate, denied, granted, reply, gives, after, block, file, onBlock, transferred, fate}
-use Rattle.demands.specs.Relation.{opens, Reading, Keeps, Agrees}
+use Rattle.demands.specs.Ledger.{File, Block, closed, reading, Ledger, Request, Fate, denied, granted, reply, gives, after, block, file, onBlock, transferred, fate}
+use Rattle.demands.specs.Relation.{opens, Reading, Keeps}
 use Rattle.demands.specs.Meets.{request}
-use Rattle.demands.specs.Changes.{Change, Changes, changes}
+use Rattle.demands.specs.Changes.{Changes, changes}
 use Rattle.demands.specs.Service.{flex, Call, setting, extending, asking, Machine, Entry, answers, gave, next, entry, log}
 use Rattle.demands.specs.History.{then, concat, Only, Reads}
-use Rattle.demands.specs.Runs.{Fine, Step, step, one, set-step, extend-step}
+use Rattle.demands.specs.Runs.{Fine, step, one, set-step, extend-step}
 use Rattle.demands.specs.Sent.{fate-zero, fits-one, open-kept, still, beyond}
 
 -- ---- the bytes of sectors, one after another

@@ -1,6 +1,6 @@
 -- The history of a list of calls: a fold over the log. It never sees image or table. What it says of files and answers.
 use mathlib.Core.Path.{_≡_}
-use mathlib.Core.Bool.{Bool, true, false}
+use mathlib.Core.Bool.{Bool, false}
 use mathlib.Core.List.{List, [], _∷_, _++_}
 use Prim.Native.Nat.{ℕ, zero, suc, _+_, _-_, _*_}
 use lib.ListN.{length, getD}
@@ -9,7 +9,7 @@ use Rattle.rules.specs.Bytes.{pick, part, same}
 use Rattle.rules.specs.Directory.{live, placeOf}
 use Rattle.rules.specs.Block.{uses}
 use Rattle.chains.specs.Chain.{contents}
-use Rattle.demands.specs.Ledger.{File, noFile, Block, closed, listing, reading, writing, Ledger, Request, Fate, reply, gives, after, holdsOpen, fate}
+use Rattle.demands.specs.Ledger.{File, Block, closed, listing, reading, writing, Ledger, reply, gives, after, holdsOpen, fate}
 use Rattle.demands.specs.Survey.{sectorsAt}
 use Rattle.demands.specs.Service.{Entry}
 

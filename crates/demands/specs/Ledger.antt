@@ -1,11 +1,10 @@
 -- The ledger: what a history of calls knows of a diskette and of the blocks. It never sees image or table: a call is told to it as a request.
-use mathlib.Core.Path.{_≡_}
 use mathlib.Core.Bool.{Bool, true, false}
 use mathlib.Core.List.{List, [], _∷_, _++_}
-use Prim.Native.Nat.{ℕ, zero, suc, _+_, _-_, _*_, _/_, _%_}
+use Prim.Native.Nat.{ℕ, zero, suc, _+_, _-_, _%_}
 use lib.ListN.{length, getD, set}
 use lib.Dec.{eqb, ltb}
-use Rattle.rules.specs.Bytes.{pick, byteAt, zeros, part}
+use Rattle.rules.specs.Bytes.{pick, byteAt, zeros}
 use Rattle.rules.specs.Image.{isSector}
 use Rattle.rules.specs.Names.{legal}
 use Rattle.rules.specs.Directory.{named, vacant, onSeen}

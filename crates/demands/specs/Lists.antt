@@ -1,32 +1,30 @@
 -- Functions 6, 7 and 9: open directory, next slot, read sector.
-use mathlib.Core.Path.{_≡_, refl, sym, ap, ap₂, _∙_, subst}
-use mathlib.Core.Logic.{_≢_}
+use mathlib.Core.Path.{_≡_, refl, sym, ap, _∙_, subst}
 use mathlib.Core.Bool.{Bool, true, false}
-use mathlib.Core.List.{List, [], _∷_, _++_}
-use Prim.Native.Nat.{ℕ, zero, suc, _+_, _-_, _*_, _/_, _%_, _≤_, _<_}
+use mathlib.Core.List.{List, [], _∷_}
+use Prim.Native.Nat.{ℕ, zero, suc, _+_, _*_, _/_, _%_, _<_}
 use native.Mathlib.Omega.{arith}
 use native.Mathlib.Decide.{decLt}
-use lib.ListN.{length, getD, set, drop}
-use lib.Dec.{eqb, ltb}
+use lib.ListN.{length, getD}
+use lib.Dec.{ltb}
 use borrow.Author.Tests.{lt-ltb, le-ltb}
 use Rattle.rules.specs.Bytes.{pick, wordAt, part, one, zeros, same}
 use Rattle.rules.specs.Stores.{Put, put, puts}
 use Rattle.rules.specs.Image.{index, isSector}
-use Rattle.rules.specs.Directory.{slotsOf, directoryRight, placeOf, slotBehind, placed}
-use Rattle.rules.specs.Outcome.{Outcome, refuse, done, onSlot}
+use Rattle.rules.specs.Directory.{slotsOf, placeOf, placed}
+use Rattle.rules.specs.Outcome.{onSlot}
 use Rattle.rules.specs.Transfer.{slotIn}
 use Rattle.rules.specs.Files.{openDirectory, shown, nextSlot, readSector}
-use Rattle.rules.specs.declared.Lookup.the-variants.{At, Missing, Broken}
-use Rattle.laws.specs.Bytes.{part-is, length-part, length-zeros, zeros-at, same-refl, same-eq}
+use Rattle.rules.specs.declared.Lookup.the-variants.{At, Missing}
+use Rattle.laws.specs.Bytes.{part-is, length-part, length-zeros, same-refl, same-eq}
 use Rattle.laws.specs.Addresses.{Shape}
-use Rattle.chains.specs.Addresses.{absurd-bool}
 use Rattle.chains.specs.Chain.{first-getD}
-use Rattle.chains.specs.Directory.{Listing, directory-is, slot-at, length-slots, Spot, spot, spot-sector, placed-spot, behind}
+use Rattle.chains.specs.Directory.{Listing, directory-is, slot-at, length-slots, spot, spot-sector, placed-spot, behind}
 use Rattle.chains.specs.Stored.{puts-clear, puts-at}
-use Rattle.demands.specs.Ledger.{File, noFile, Block, closed, listing, Ledger, Request, Fate, denied, granted, onBlock, shownNext}
-use Rattle.demands.specs.Relation.{tb, tp, opens, writes, Listed, Keeps, Agrees, placeBy, tp-same, Turn}
+use Rattle.demands.specs.Ledger.{Block, closed, listing, Ledger, Request, denied, granted, onBlock, shownNext}
+use Rattle.demands.specs.Relation.{tb, opens, Listed, Keeps, Agrees, tp-same}
 use Rattle.demands.specs.Quiet.{turned, shut-block, idle-quiet}
-use Rattle.demands.specs.Meets.{request, Meets, meets-pick, meets-unless}
+use Rattle.demands.specs.Meets.{request, Meets, meets-unless}
 
 module _ (M S : ℕ) (z : Shape M S) (ds : List ℕ) (d : Listing S ds) (img tab : List ℕ) (a : Ledger) (r : Agrees M S ds img tab a) (n : ℕ) (hn : n < 8) where
   in-table : (k : ℕ) → k < 320 → 320 * n + k < length tab

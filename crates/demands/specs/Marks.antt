@@ -1,26 +1,24 @@
 -- Stores into a slot alone: it is marked deleted.
-use mathlib.Core.Path.{_≡_, refl, sym, ap, ap₂, _∙_, subst}
+use mathlib.Core.Path.{_≡_, refl, sym, ap, _∙_, subst}
 use mathlib.Core.Logic.{_≢_}
-use mathlib.Core.Bool.{Bool, true, false}
-use mathlib.Core.List.{List, [], _∷_, _++_}
-use Prim.Native.Nat.{ℕ, zero, suc, _+_, _-_, _*_, _/_, _%_, _≤_, _<_}
+use mathlib.Core.List.{List, [], _∷_}
+use Prim.Native.Nat.{ℕ, zero, suc, _+_, _*_, _/_, _%_, _≤_, _<_}
 use native.Mathlib.Omega.{arith}
 use lib.ListN.{length, getD, set, length-set}
 use lib.Seq.{getD-set-same, getD-set-other}
-use Rattle.rules.specs.Bytes.{part, one}
+use Rattle.rules.specs.Bytes.{one}
 use Rattle.rules.specs.Stores.{Store, store, stored}
-use Rattle.rules.specs.Directory.{live, slotsOf}
-use Rattle.laws.specs.Bytes.{part-is, part-at, part-same, length-part, length-one}
+use Rattle.rules.specs.Directory.{slotsOf}
+use Rattle.laws.specs.Bytes.{part-is, part-at, part-same, length-part}
 use Rattle.chains.specs.Tally.{tally}
 use Rattle.laws.specs.Addresses.{Shape}
 use Rattle.chains.specs.Addresses.{absurd-bool}
 use Rattle.chains.specs.Chain.{Chain, chain-same}
 use Rattle.chains.specs.Directory.{Listing, Spot, spot}
-use Rattle.laws.specs.Stores.{length-stored}
 use Rattle.chains.specs.Stored.{stored-off, stored-at}
 use Rattle.chains.specs.Frame.{Frame, framed, in-slot}
-use Rattle.demands.specs.Ledger.{File, noFile, Block, closed, listing, reading, writing, Ledger, withMark}
-use Rattle.demands.specs.Relation.{opens, writes, Holds, Keeps, Agrees, Turn, step, long}
+use Rattle.demands.specs.Ledger.{File, noFile, Block, closed, Ledger, withMark}
+use Rattle.demands.specs.Relation.{opens, writes, Holds, Keeps, Agrees, Turn, step}
 use Rattle.demands.specs.Sectors.{free-data}
 use Rattle.demands.specs.Searches.{marked-dead}
 

@@ -1,13 +1,12 @@
 -- What it is that a call's outcome meets its fate; test by test.
-use mathlib.Core.Path.{_≡_, refl, sym, ap, ap₂, _∙_, subst}
+use mathlib.Core.Path.{_≡_, refl, sym, _∙_, subst}
 use mathlib.Core.Logic.{_≢_}
 use mathlib.Core.Bool.{Bool, true, false}
-use mathlib.Core.List.{List, [], _∷_, _++_}
-use Prim.Native.Nat.{ℕ, zero, suc, _+_, _-_, _*_, _≤_, _<_}
-use native.Mathlib.Omega.{arith}
-use lib.ListN.{length, getD, set}
+use mathlib.Core.List.{List, [], _∷_}
+use Prim.Native.Nat.{ℕ, _+_, _*_, _<_}
+use lib.ListN.{getD}
 use Rattle.rules.specs.Bytes.{pick, one, wordAt, part}
-use Rattle.rules.specs.Stores.{Store, stored, Put, put, puts}
+use Rattle.rules.specs.Stores.{stored, put, puts}
 use Rattle.rules.specs.Outcome.{Outcome, refuse, done, Effect, settled, answer, given, onImage, onBlock}
 use Rattle.laws.specs.Addresses.{Shape}
 use Rattle.chains.specs.Directory.{Listing}

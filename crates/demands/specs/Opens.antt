@@ -1,37 +1,35 @@
 -- Open for read and open for write.
-use mathlib.Core.Path.{_≡_, refl, sym, ap, ap₂, _∙_, subst}
+use mathlib.Core.Path.{_≡_, refl, sym, ap, _∙_, subst}
 use mathlib.Core.Logic.{_≢_}
-use mathlib.Core.Bool.{Bool, true, false}
+use mathlib.Core.Bool.{true, false}
 use mathlib.Core.List.{List, [], _∷_, _++_}
 use Prim.Native.Nat.{ℕ, zero, suc, _+_, _-_, _*_, _/_, _%_, _≤_, _<_}
 use native.Mathlib.Omega.{arith}
-use lib.ListN.{length, getD, set, drop, length-append, length-replicate, List·getD-append}
+use lib.ListN.{length, getD, drop, length-append, List·getD-append}
 use lib.Seq.{getD-set-same, getD-append-add}
 use lib.Dec.{eqb, leb}
 use borrow.Author.Tests.{ne-eqb, lt-leb}
 use Rattle.laws.specs.Tests.{both, either, within-is}
 use Rattle.rules.specs.Bytes.{pick, within, wordAt, part, one, zeros}
-use Rattle.rules.specs.Stores.{Store, store, stored, Put, put, puts}
+use Rattle.rules.specs.Stores.{store, stored, Put, put, puts}
 use Rattle.rules.specs.Names.{isLetter, isWord, legal}
-use Rattle.rules.specs.Directory.{slotsOf, live, neverUsed, named, vacant, find, vacancy, placeOf}
-use Rattle.rules.specs.Outcome.{Outcome, refuse, done, onSlot, onNone}
+use Rattle.rules.specs.Directory.{slotsOf, live, neverUsed, named, vacant, placeOf}
+use Rattle.rules.specs.Outcome.{refuse, done, onSlot, onNone}
 use Rattle.rules.specs.Block.{inUse}
 use Rattle.rules.specs.Files.{opened, newEntry, openRead, openWrite}
-use Rattle.rules.specs.declared.Lookup.the-variants.{At, Missing, Broken}
-use Rattle.laws.specs.Bytes.{word-put, word-same, part-at, part-is, part-all, length-part, length-zeros, zeros-at}
+use Rattle.laws.specs.Bytes.{word-put, word-same, part-at, part-is, length-part, length-zeros, zeros-at}
 use Rattle.chains.specs.Tally.{tally}
 use Rattle.laws.specs.Addresses.{Shape}
 use Rattle.chains.specs.Addresses.{adr, adr-zero, absurd-bool}
-use Rattle.chains.specs.Chain.{first, first-getD}
+use Rattle.chains.specs.Chain.{first-getD}
 use Rattle.chains.specs.Directory.{Listing}
-use Rattle.laws.specs.Stores.{length-stored}
-use Rattle.chains.specs.Stored.{placeAt, bytesOf, fieldOf, valuesOf, noPut, Clear, puts-clear, puts-at}
-use Rattle.demands.specs.Ledger.{File, noFile, Block, closed, listing, reading, writing, Ledger, Request, Fate, denied, granted, Sought, nowhere, slot, onSought, seek, fileNamed, vacantSlot, busy, onBlock, onFile, newFile, openedToRead, openedToWrite}
-use Rattle.demands.specs.Relation.{tb, t2, tp, opens, writes, Holds, Reading, Writing, Keeps, Agrees, Turn, step, step-block}
+use Rattle.chains.specs.Stored.{fieldOf, valuesOf, noPut, Clear, puts-clear, puts-at}
+use Rattle.demands.specs.Ledger.{File, noFile, closed, reading, writing, Ledger, denied, granted, Sought, nowhere, slot, onSought, fileNamed, vacantSlot, busy, onBlock, onFile, newFile, openedToRead, openedToWrite}
+use Rattle.demands.specs.Relation.{tb, t2, tp, opens, Holds, Reading, Writing, Agrees, Turn, step, step-block}
 use Rattle.demands.specs.Quiet.{turned, writes-opens}
-use Rattle.demands.specs.Meets.{request, Meets, meets-pick, meets-unless, meets-when}
-use Rattle.demands.specs.Searches.{legal-part, find-is, vacancy-is, in-use-is, lookedUp, Sat, seek-found, Named, named-hit, vacant-hit, dead-shut, not-busy, not-written, part-part}
-use Rattle.demands.specs.Marks.{slot-in, slot-off, slot-at, slot-frame, slot-free}
+use Rattle.demands.specs.Meets.{request, Meets, meets-unless, meets-when}
+use Rattle.demands.specs.Searches.{legal-part, find-is, vacancy-is, in-use-is, lookedUp, seek-found, named-hit, vacant-hit, dead-shut, not-busy, not-written}
+use Rattle.demands.specs.Marks.{slot-at, slot-frame, slot-free}
 
 -- ---- a legal name is live
 letter-live : (x : ℕ) → isLetter x ≡ true → pick (eqb x 0) false (pick (leb 128 x) false true) ≡ true

@@ -1,11 +1,10 @@
 -- Calls that change a block alone, and those that change nothing that the ledger knows.
-use mathlib.Core.Path.{_≡_, refl, sym, ap, ap₂, _∙_, subst}
+use mathlib.Core.Path.{_≡_, refl, sym, ap, _∙_, subst}
 use mathlib.Core.Logic.{_≢_}
-use mathlib.Core.Bool.{Bool, true, false}
-use mathlib.Core.List.{List, [], _∷_, _++_}
-use Prim.Native.Nat.{ℕ, zero, suc, _+_, _-_, _*_, _≤_, _<_}
+use mathlib.Core.List.{List, [], _∷_}
+use Prim.Native.Nat.{ℕ, suc, _*_, _≤_, _<_}
 use native.Mathlib.Omega.{arith}
-use lib.ListN.{length, getD, set}
+use lib.ListN.{getD, set}
 use lib.Seq.{set-getD}
 use Rattle.rules.specs.Bytes.{one}
 use Rattle.rules.specs.Stores.{Put, put, puts}
@@ -14,9 +13,9 @@ use Rattle.laws.specs.Bytes.{length-one}
 use Rattle.laws.specs.Addresses.{Shape}
 use Rattle.chains.specs.Directory.{Listing}
 use Rattle.laws.specs.Stores.{length-puts}
-use Rattle.chains.specs.Stored.{Clear, Inside, puts-clear, puts-other}
-use Rattle.demands.specs.Ledger.{File, noFile, Block, closed, listing, reading, writing, Ledger, activity}
-use Rattle.demands.specs.Relation.{tb, tp, opens, writes, Listed, Reading, Writing, Keeps, Agrees, Rest, keeps-same, Turn, step-block}
+use Rattle.chains.specs.Stored.{Inside, puts-clear, puts-other}
+use Rattle.demands.specs.Ledger.{File, Block, closed, listing, reading, writing, Ledger, activity}
+use Rattle.demands.specs.Relation.{tb, tp, opens, writes, Keeps, Agrees, Rest, keeps-same, Turn, step-block}
 
 -- stores inside of block n leave the others
 pub turned : (tab : List ℕ) (n : ℕ) (ps : List Put) → Inside ps → Turn tab (puts tab (320 * n) ps) n

@@ -1,30 +1,30 @@
 -- Function 0 in reading, and rewind.
-use mathlib.Core.Path.{_≡_, refl, sym, ap, ap₂, _∙_, subst}
+use mathlib.Core.Path.{_≡_, refl, sym, ap, _∙_, subst}
 use mathlib.Core.Logic.{_≢_}
-use mathlib.Core.Bool.{Bool, true, false}
-use mathlib.Core.List.{List, [], _∷_, _++_}
-use Prim.Native.Nat.{ℕ, zero, suc, _+_, _-_, _*_, _/_, _%_, _≤_, _<_}
+use mathlib.Core.Bool.{false}
+use mathlib.Core.List.{List, [], _∷_}
+use Prim.Native.Nat.{ℕ, suc, _+_, _-_, _*_, _%_, _≤_, _<_}
 use native.Mathlib.Omega.{arith}
 use native.Mathlib.Decide.{ℕ-discrete, decLt}
-use lib.ListN.{length, getD, set, drop, List·getD-eq-default}
+use lib.ListN.{length, getD, List·getD-eq-default}
 use lib.Dec.{eqb, ltb}
 use borrow.Author.Tests.{ne-eqb, eq-eqb, le-ltb, lt-ltb}
-use Rattle.rules.specs.Bytes.{pick, byteAt, wordAt, part, one, two}
+use Rattle.rules.specs.Bytes.{pick, byteAt, part, one, two}
 use Rattle.rules.specs.Stores.{Put, put, puts}
 use Rattle.rules.specs.Image.{index, isData}
 use Rattle.rules.specs.Directory.{slotsOf}
-use Rattle.rules.specs.Outcome.{Outcome, refuse, done}
+use Rattle.rules.specs.Outcome.{refuse, done}
 use Rattle.rules.specs.Transfer.{nextToRead, loadPuts, load}
 use Rattle.rules.specs.Files.{rewind}
-use Rattle.laws.specs.Bytes.{word-put, word-same, part-at, length-part, length-one, length-two}
+use Rattle.laws.specs.Bytes.{word-put, word-same, part-at, length-part, length-one}
 use Rattle.chains.specs.Tally.{tally}
 use Rattle.laws.specs.Addresses.{Shape}
 use Rattle.chains.specs.Addresses.{adr, adr-zero, adr-pos, adr-small, index-adr, data-adr}
 use Rattle.chains.specs.Chain.{tally-getD, seg-at, contents-at}
 use Rattle.chains.specs.Directory.{Listing}
 use Rattle.chains.specs.Stored.{puts-clear, puts-at}
-use Rattle.demands.specs.Ledger.{File, noFile, Block, closed, listing, reading, writing, Ledger, Request, Fate, denied, granted, file, onBlock, transferred, rewound}
-use Rattle.demands.specs.Relation.{tb, t2, tp, opens, writes, Holds, Reading, Keeps, Agrees, t2-same, tp-same, all-low, all-high, slot-le}
+use Rattle.demands.specs.Ledger.{File, noFile, Block, closed, reading, Ledger, Request, denied, granted, onBlock, transferred, rewound}
+use Rattle.demands.specs.Relation.{tb, t2, opens, writes, Holds, Reading, Keeps, Agrees, t2-same, tp-same, all-low, all-high, slot-le}
 use Rattle.demands.specs.Quiet.{turned, on-block}
 use Rattle.demands.specs.Meets.{Meets, meets-pick}
 

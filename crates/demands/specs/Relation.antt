@@ -1,21 +1,21 @@
 -- What image and table must be for a ledger; and the step by which both change.
-use mathlib.Core.Path.{_≡_, refl, sym, ap, ap₂, _∙_, subst}
+use mathlib.Core.Path.{_≡_, refl, sym, ap, _∙_, subst}
 use mathlib.Core.Logic.{_≢_}
-use mathlib.Core.Bool.{Bool, true, false}
-use mathlib.Core.List.{List, [], _∷_, _++_}
-use Prim.Native.Nat.{ℕ, zero, suc, _+_, _-_, _*_, _/_, _%_, _≤_, _<_}
+use mathlib.Core.Bool.{true, false}
+use mathlib.Core.List.{List, [], _++_}
+use Prim.Native.Nat.{ℕ, zero, suc, _+_, _-_, _*_, _≤_, _<_}
 use native.Mathlib.Omega.{arith}
 use native.Mathlib.Decide.{ℕ-discrete}
 use lib.ListN.{length, getD, set, length-set}
-use lib.Seq.{getD-set-same, getD-set-other, set-getD}
-use Rattle.rules.specs.Bytes.{pick, wordAt, part, zeros}
+use lib.Seq.{getD-set-same, getD-set-other}
+use Rattle.rules.specs.Bytes.{wordAt, part, zeros}
 use Rattle.rules.specs.Directory.{live, slotsOf, placeOf}
 use Rattle.laws.specs.Bytes.{word-same, part-same}
-use Rattle.chains.specs.Tally.{tally, tally-append, tally-head, flat, tally-set, tally-one, tally-two}
+use Rattle.chains.specs.Tally.{tally, tally-append, flat, tally-set, tally-one, tally-two}
 use Rattle.chains.specs.Once.{Once, once-eq, once-le}
 use Rattle.laws.specs.Addresses.{Shape}
 use Rattle.chains.specs.Addresses.{Sized, adr, room-for}
-use Rattle.chains.specs.Chain.{first, lastOf, Seg, Chain, contents, seg-same, contents-same, chain-same, record-same}
+use Rattle.chains.specs.Chain.{first, lastOf, Seg, Chain, contents, seg-same, contents-same, chain-same}
 use Rattle.chains.specs.Directory.{Listing}
 use Rattle.chains.specs.Frame.{Frame}
 use Rattle.demands.specs.Ledger.{File, noFile, Block, closed, listing, reading, writing, Ledger}

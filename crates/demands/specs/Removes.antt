@@ -1,39 +1,38 @@
 -- Delete: a file's chain is hung behind the free chain, its slot marked. Rename.
-use mathlib.Core.Path.{_≡_, refl, sym, ap, ap₂, _∙_, subst}
+use mathlib.Core.Path.{_≡_, refl, sym, ap, _∙_, subst}
 use mathlib.Core.Logic.{_≢_}
-use mathlib.Core.Bool.{Bool, true, false}
+use mathlib.Core.Bool.{true, false}
 use mathlib.Core.List.{List, [], _∷_, _++_, append-nil}
-use Prim.Native.Nat.{ℕ, zero, suc, _+_, _-_, _*_, _/_, _%_, _≤_, _<_}
+use Prim.Native.Nat.{ℕ, suc, _+_, _*_, _/_, _%_, _≤_, _<_}
 use native.Mathlib.Omega.{arith}
 use native.Mathlib.Decide.{ℕ-discrete}
-use lib.ListN.{length, getD, set, drop, length-append}
-use lib.Dec.{eqb, ltb}
-use borrow.Author.Tests.{ne-eqb, eq-eqb, le-ltb, eqb-true, eqb-false}
+use lib.ListN.{length, getD, set, length-append}
+use lib.Dec.{eqb}
+use borrow.Author.Tests.{ne-eqb, eq-eqb, le-ltb}
 use Rattle.rules.specs.Bytes.{pick, byteAt, wordAt, part, one, two, six}
 use Rattle.rules.specs.Stores.{Store, store, stored, Put, put, puts}
-use Rattle.rules.specs.Image.{index, isData}
+use Rattle.rules.specs.Image.{isData}
 use Rattle.rules.specs.Names.{legal}
-use Rattle.rules.specs.Directory.{slotsOf, live, named, find, placeOf}
-use Rattle.rules.specs.Outcome.{Outcome, refuse, done, onSlot, onNone}
+use Rattle.rules.specs.Directory.{slotsOf, live, named, placeOf}
+use Rattle.rules.specs.Outcome.{refuse, done, onSlot, onNone}
 use Rattle.rules.specs.Block.{inUse}
-use Rattle.rules.specs.Transfer.{linked, mark}
+use Rattle.rules.specs.Transfer.{mark}
 use Rattle.rules.specs.Files.{writeProtected, deleteProtected, hangStores, gone, remove, delete}
-use Rattle.laws.specs.Bytes.{word-put, word-same, part-at, part-is, part-same, part-all, length-part, length-one}
-use Rattle.chains.specs.Tally.{tally, tally-append, apart}
+use Rattle.laws.specs.Bytes.{word-put, part-at, part-is, part-same, length-part, length-one}
+use Rattle.chains.specs.Tally.{tally-append, apart}
 use Rattle.laws.specs.Addresses.{Shape}
 use Rattle.chains.specs.Addresses.{adr, absurd-bool}
-use Rattle.chains.specs.Chain.{first, lastOf, Seg, Chain, tally-last, first-in, last-append, seg-same, seg-hang, chain-same, empty, contents-same}
+use Rattle.chains.specs.Chain.{first, lastOf, Chain, tally-last, first-in, last-append, seg-same, seg-hang, chain-same, empty, contents-same}
 use Rattle.chains.specs.Directory.{Listing}
-use Rattle.laws.specs.Stores.{length-stored}
-use Rattle.chains.specs.Stored.{Off, stored-off, stored-at, puts-clear, puts-at}
+use Rattle.chains.specs.Stored.{stored-off, stored-at, puts-clear}
 use Rattle.chains.specs.Frame.{Frame, framed, Lies, in-record, in-sector, in-slot, of-nothing}
-use Rattle.demands.specs.Ledger.{File, noFile, Block, closed, Ledger, Request, Fate, denied, granted, Sought, nowhere, slot, onSought, seek, fileNamed, busy, block, file, attributes, onBlock, onFile, withMark, withName, deleted, renamed}
-use Rattle.demands.specs.Relation.{tb, t2, tp, opens, writes, Holds, Keeps, Agrees, tp-same, Turn, step, long}
+use Rattle.demands.specs.Ledger.{File, noFile, Block, closed, Ledger, denied, granted, Sought, nowhere, slot, onSought, fileNamed, busy, attributes, onFile, withMark, withName, deleted, renamed}
+use Rattle.demands.specs.Relation.{t2, opens, Holds, Keeps, Agrees, tp-same, Turn, step, long}
 use Rattle.demands.specs.Quiet.{turned, shut-writes, idle-kept}
-use Rattle.demands.specs.Meets.{request, Meets, meets-pick, meets-unless, meets-when}
+use Rattle.demands.specs.Meets.{request, Meets, meets-unless, meets-when}
 use Rattle.chains.specs.Walk.{AllData}
 use Rattle.demands.specs.Sectors.{free-data, secs-data, secs-once, few, fits, sector-small, sector-data, last-data, index-last, last-small, linked-is}
-use Rattle.demands.specs.Searches.{legal-part, find-is, in-use-is, lookedUp, Sat, seek-found, Named, named-hit, not-busy, not-open, part-part}
+use Rattle.demands.specs.Searches.{legal-part, find-is, in-use-is, lookedUp, seek-found, named-hit, not-busy, not-open}
 use Rattle.demands.specs.Marks.{slot-low, slot-high, slot-in, slot-off, slot-at, slot-frame, slot-free, mark-holds, mark-step}
 use Rattle.demands.specs.Opens.{legal-live}
 

@@ -1,31 +1,31 @@
 -- A closed file at rest: it stays as it is through every call that does not delete it, but for its name where one renames it.
-use mathlib.Core.Path.{_≡_, refl, sym, ap, ap₂, _∙_, subst}
+use mathlib.Core.Path.{_≡_, refl, sym, ap, _∙_, subst}
 use mathlib.Core.Logic.{_≢_}
 use mathlib.Core.Bool.{Bool, true, false}
-use mathlib.Core.List.{List, [], _∷_, _++_}
-use Prim.Native.Nat.{ℕ, zero, suc, _+_, _-_, _*_, _≤_, _<_}
+use mathlib.Core.List.{List, [], _∷_}
+use Prim.Native.Nat.{ℕ, suc, _<_}
 use native.Mathlib.Omega.{arith}
 use native.Mathlib.Decide.{ℕ-discrete, decLt}
-use lib.ListN.{length, getD, set}
-use lib.Dec.{eqb, ltb}
-use borrow.Author.Tests.{eq-eqb, ne-eqb, eqb-true, lt-ltb, le-ltb}
-use Rattle.rules.specs.Bytes.{pick, part, same}
+use lib.ListN.{length}
+use lib.Dec.{eqb}
+use borrow.Author.Tests.{eq-eqb, ne-eqb, eqb-true, le-ltb}
+use Rattle.rules.specs.Bytes.{pick, same}
 use Rattle.rules.specs.Directory.{live}
 use Rattle.laws.specs.Bytes.{same-refl, same-eq, part-all}
 use Rattle.laws.specs.Tests.{both}
 use Rattle.laws.specs.Addresses.{Shape}
 use Rattle.chains.specs.Addresses.{absurd-bool}
 use Rattle.chains.specs.Directory.{Listing}
-use Rattle.demands.specs.Ledger.{File, noFile, Block, closed, Ledger, Request, Fate, denied, granted, reply, after, Sought, nowhere, slot, fileNamed, vacantSlot, block, file, withName, fate}
-use Rattle.demands.specs.Relation.{writes, Agrees}
+use Rattle.demands.specs.Ledger.{File, Ledger, Request, Fate, denied, granted, reply, after, slot, fileNamed, block, file, withName, fate}
+use Rattle.demands.specs.Relation.{writes}
 use Rattle.demands.specs.Meets.{request, Sure}
-use Rattle.demands.specs.Searches.{seek-found, Named, named-hit, slot-same}
+use Rattle.demands.specs.Searches.{seek-found, named-hit}
 use Rattle.demands.specs.Opens.{legal-live}
 use Rattle.demands.specs.Tidy.{nameOf, Tidy, found-there}
 use Rattle.demands.specs.Changes.{Change, Changes, changes, length-kept, rename-legal, Slot, kept, own, fresh, lost, moved, slot-fate, writes-before, live-not-room}
-use Rattle.demands.specs.Service.{flex, Call, setting, extending, asking, Machine, Entry, answers, gave, next, entry, run, log}
+use Rattle.demands.specs.Service.{flex, Call, setting, extending, asking, Machine, Entry, answers, gave, next, entry, log}
 use Rattle.demands.specs.History.{then, history, deletes, renames, nameAfter, nameThen, Survives, Unnamed}
-use Rattle.demands.specs.Runs.{Fine, Step, step, one, set-step, extend-step}
+use Rattle.demands.specs.Runs.{Fine, step, one, set-step, extend-step}
 
 -- slot s has the file f, which is live, and no block writes it
 pub record Rests (a : Ledger) (s : ℕ) (f : File) : Type 0 where

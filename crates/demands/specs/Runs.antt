@@ -1,13 +1,12 @@
 -- Our service over every list of calls: image and table stay in agreement with the history, the directory tidy, and every answer is the predicted one.
-use mathlib.Core.Path.{_≡_, refl, sym, ap, ap₂, _∙_, subst}
-use mathlib.Core.Logic.{_≢_}
+use mathlib.Core.Path.{_≡_, refl, sym, ap, _∙_, subst}
 use mathlib.Core.Bool.{Bool, true, false}
-use mathlib.Core.List.{List, [], _∷_, _++_}
-use Prim.Native.Nat.{ℕ, zero, suc, _+_, _-_, _*_, _/_, _%_, _≤_, _<_}
+use mathlib.Core.List.{List, [], _∷_}
+use Prim.Native.Nat.{ℕ, _+_, _*_, _≤_, _<_}
 use native.Mathlib.Omega.{arith}
-use native.Mathlib.Decide.{ℕ-discrete, decLt}
-use lib.ListN.{length, getD, length-replicate, getD-replicate}
-use lib.Dec.{eqb, ltb}
+use native.Mathlib.Decide.{decLt}
+use lib.ListN.{length, getD}
+use lib.Dec.{eqb}
 use borrow.Author.Tests.{eq-eqb, ne-eqb, lt-ltb, le-ltb}
 use Rattle.rules.specs.Bytes.{pick, zeros}
 use Rattle.rules.specs.Stores.{stored, puts}
@@ -18,18 +17,18 @@ use Rattle.rules.specs.Block.{blockAt}
 use Rattle.rules.specs.Census.{Survey, survey, census}
 use Rattle.laws.specs.Bytes.{length-zeros, zeros-at, length-part}
 use Rattle.laws.specs.Effects.{call-wrong, preset-quiet, extension-quiet}
-use Rattle.laws.specs.Surveys.{Sane, Surveyed, census-is}
+use Rattle.laws.specs.Surveys.{Sane, census-is}
 use Rattle.laws.specs.Addresses.{Shape}
 use Rattle.chains.specs.Addresses.{Sized}
 use Rattle.chains.specs.Directory.{Listing}
-use Rattle.demands.specs.Ledger.{Ledger, Request, Fate, denied, granted, reply, gives, after, fate}
-use Rattle.demands.specs.Relation.{tb, Agrees}
-use Rattle.demands.specs.Meets.{request, Met, Sure}
+use Rattle.demands.specs.Ledger.{Ledger, Fate, denied, granted, reply, gives, after, fate}
+use Rattle.demands.specs.Relation.{Agrees}
+use Rattle.demands.specs.Meets.{request, Sure}
 use Rattle.demands.specs.Calls.{call-met, preset-still, extension-still}
 use Rattle.demands.specs.Tidy.{Tidy}
-use Rattle.demands.specs.Changes.{Change, Changes, changes, tidy-change, own-live}
+use Rattle.demands.specs.Changes.{Changes, changes, tidy-change, own-live}
 use Rattle.demands.specs.Survey.{ledgerOf, start-listing, start-agrees, start-tidy}
-use Rattle.demands.specs.Service.{Service, flex, Call, setting, extending, asking, Machine, Entry, answers, gave, next, entry, run, log}
+use Rattle.demands.specs.Service.{flex, Call, setting, extending, asking, Machine, Entry, answers, gave, next, entry, run, log}
 use Rattle.demands.specs.History.{then, history, answerOf, byteOf, Told}
 use Rattle.demands.specs.Demands.{Start, surveyAnswer, dataSectors}
 

@@ -1,30 +1,28 @@
 -- Searches of the directory and blocks in use: what the rules find is what the ledger says.
-use mathlib.Core.Path.{_≡_, refl, sym, ap, ap₂, _∙_, subst}
+use mathlib.Core.Path.{_≡_, refl, sym, ap, _∙_, subst}
 use mathlib.Core.Logic.{_≢_}
 use mathlib.Core.Bool.{Bool, true, false}
-use mathlib.Core.List.{List, [], _∷_, _++_}
-use Prim.Native.Nat.{ℕ, zero, suc, _+_, _-_, _*_, _≤_, _<_}
+use mathlib.Core.List.{List, [], _∷_}
+use Prim.Native.Nat.{ℕ, zero, suc, _+_, _≤_, _<_}
 use native.Mathlib.Omega.{arith}
 use native.Mathlib.Decide.{ℕ-discrete}
-use lib.ListN.{length, getD, set, length-set}
-use lib.Seq.{getD-set-same, getD-set-other}
-use lib.Dec.{eqb, leb, ltb}
-use borrow.Author.Tests.{eq-eqb, ne-eqb, eqb-true, eqb-false, lt-leb, le-leb}
-use Rattle.rules.specs.Bytes.{pick, byteAt, part, same}
-use Rattle.rules.specs.Names.{isWord, legal}
-use Rattle.rules.specs.Directory.{directoryRight, slots, slotsOf, neverUsed, deleted, live, onSeen, scan, searchStops, named, vacant, lookupOf, find, vacancy, placeOf}
-use Rattle.rules.specs.Block.{counts, uses, usedBelow, inUse, activityIn, placeIn}
+use lib.ListN.{length, getD, set}
+use borrow.Author.Tests.{eqb-false}
+use Rattle.rules.specs.Bytes.{pick, part, same}
+use Rattle.rules.specs.Names.{legal}
+use Rattle.rules.specs.Directory.{slots, slotsOf, neverUsed, deleted, live, onSeen, scan, searchStops, named, vacant, lookupOf, find, vacancy, placeOf}
+use Rattle.rules.specs.Block.{counts, uses, usedBelow, inUse}
 use Rattle.rules.specs.declared.Seen.{Seen}
 use Rattle.rules.specs.declared.Seen.the-variants.{Hit, Stop, Pass}
 use Rattle.rules.specs.declared.Found.{Found}
 use Rattle.rules.specs.declared.Lookup.{Lookup}
-use Rattle.rules.specs.declared.Lookup.the-variants.{At, Missing, Broken}
-use Rattle.laws.specs.Bytes.{part-at, part-same, part-all, length-part, same-refl, same-eq}
+use Rattle.rules.specs.declared.Lookup.the-variants.{At, Missing}
+use Rattle.laws.specs.Bytes.{part-at, part-same, part-all, length-part, same-eq}
 use Rattle.laws.specs.Addresses.{Shape}
 use Rattle.chains.specs.Addresses.{absurd-bool}
 use Rattle.chains.specs.Directory.{Listing, directory-is, places-same}
-use Rattle.demands.specs.Ledger.{File, noFile, Block, closed, listing, reading, writing, Ledger, Sought, nowhere, slot, later, seek, fileNamed, vacantSlot, activity, holdsOpen, busy}
-use Rattle.demands.specs.Relation.{tb, tp, opens, writes, Holds, Reading, Writing, Keeps, Agrees}
+use Rattle.demands.specs.Ledger.{File, noFile, Block, closed, listing, reading, writing, Ledger, Sought, nowhere, slot, later, seek, fileNamed, vacantSlot, holdsOpen, busy}
+use Rattle.demands.specs.Relation.{opens, writes, Keeps, Agrees}
 
 -- ---- bytes of a part
 

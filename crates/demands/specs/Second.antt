@@ -8,35 +8,29 @@ use native.Mathlib.Omega.{arith}
 use native.Mathlib.Decide.{ℕ-discrete, decLt}
 use lib.ListN.{length, getD, set, replicate}
 use lib.Seq.{getD-set-same, getD-set-other}
-use lib.Dec.{eqb, ltb}
-use borrow.Author.Tests.{eq-eqb, ne-eqb, eqb-true, lt-ltb, le-ltb}
-use Rattle.rules.specs.Bytes.{pick, within, wordAt, part, over, one, zeros, same}
-use Rattle.rules.specs.Stores.{Put, put, puts}
+use lib.Dec.{eqb}
+use borrow.Author.Tests.{eq-eqb, ne-eqb, eqb-true, lt-ltb}
+use Rattle.rules.specs.Bytes.{pick, within, wordAt, part, over, one, zeros}
 use Rattle.rules.specs.Names.{legal}
 use Rattle.rules.specs.Directory.{live, directory, slotsOf, sizeAt}
-use Rattle.rules.specs.Outcome.{Effect, effect}
 use Rattle.rules.specs.Block.{idle, presettable, presetIn}
 use Rattle.rules.specs.Call.{served, fits}
-use Rattle.laws.specs.Bytes.{same-refl}
 use Rattle.laws.specs.Tests.{both}
 use Rattle.laws.specs.Addresses.{Shape}
-use Rattle.chains.specs.Addresses.{absurd-bool}
-use Rattle.chains.specs.Chain.{contents, setLast, length-contents, empty}
+use Rattle.chains.specs.Chain.{length-contents}
 use Rattle.chains.specs.Directory.{Listing}
-use Rattle.demands.specs.Ledger.{File, noFile, Block, closed, listing, reading, writing, Ledger, Request, Fate, denied, granted, reply, after, Sought, nowhere, slot, onSought, fileNamed, vacantSlot, holdsOpen, busy, activity, block, file, onBlock, onFile, withLast, withMark, withName, newFile, padTo, openedToRead, openedToWrite, shutBlock, performed, fate}
-use Rattle.demands.specs.Relation.{tb, opens, writes, Writing, Keeps, Agrees}
+use Rattle.demands.specs.Ledger.{File, noFile, Block, closed, listing, reading, writing, Ledger, Request, Fate, denied, granted, reply, after, nowhere, slot, fileNamed, vacantSlot, holdsOpen, busy, activity, block, file, onBlock, onFile, withLast, withName, newFile, padTo, openedToRead, openedToWrite, shutBlock, performed, fate}
+use Rattle.demands.specs.Relation.{opens, writes, Writing, Keeps}
 use Rattle.demands.specs.Quiet.{activity-is, nobody, writes-opens}
 use Rattle.demands.specs.Meets.{request, Sure}
-use Rattle.demands.specs.Searches.{Sat, seek-found}
-use Rattle.demands.specs.Calls.{Offset, presettable-is}
-use Rattle.demands.specs.Opens.{legal-live}
-use Rattle.demands.specs.Tidy.{Tidy}
-use Rattle.demands.specs.Changes.{Change, Changes, changes, rename-legal}
+use Rattle.demands.specs.Searches.{seek-found}
+use Rattle.demands.specs.Calls.{presettable-is}
+use Rattle.demands.specs.Changes.{Changes, changes, rename-legal}
 use Rattle.demands.specs.Survey.{ledgerOf}
-use Rattle.demands.specs.Service.{Service, flex, Reply, replied, Call, setting, extending, asking, Machine, Entry, answers, gave, next, entry, run, log}
-use Rattle.demands.specs.History.{then, history, concat, front, content, renames, nameAfter, nameThen, Survives, Only, sentBy, Reads}
+use Rattle.demands.specs.Service.{flex, replied, Call, setting, extending, asking, Machine, Entry, answers, gave, next, entry, run, log}
+use Rattle.demands.specs.History.{then, history, concat, front, content, renames, nameAfter, nameThen, Survives, sentBy}
 use Rattle.demands.specs.Demands.{Start, lastOf, perOf, told, Asks, Idle, nameIn, rest, ledgerAfter, ReadBack, ClosedWith, WrittenTo, Created, Demand2}
-use Rattle.demands.specs.Runs.{Fine, Step, step, one as one-call, always, set-step, extend-step, start-shape, start-list, start-fine}
+use Rattle.demands.specs.Runs.{Fine, step, one as one-call, always, set-step, extend-step, start-shape, start-list, start-fine}
 use Rattle.demands.specs.Rests.{Rests, found, rests}
 use Rattle.demands.specs.Sent.{fate-of, concat-last, content-none, content-some, Wrote, written, beyond}
 use Rattle.demands.specs.Got.{at-start, reads}

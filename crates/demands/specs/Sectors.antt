@@ -1,21 +1,19 @@
 -- The sectors of a ledger that image and table agree with: where they lie, how many there are, what their addresses are.
-use mathlib.Core.Path.{_≡_, refl, sym, ap, ap₂, _∙_, subst}
-use mathlib.Core.Logic.{_≢_}
+use mathlib.Core.Path.{_≡_, refl, sym, ap, _∙_, subst}
 use mathlib.Core.Bool.{Bool, true, false}
 use mathlib.Core.List.{List, [], _∷_, _++_}
-use Prim.Native.Nat.{ℕ, zero, suc, _+_, _-_, _*_, _/_, _%_, _≤_, _<_}
+use Prim.Native.Nat.{ℕ, zero, suc, _+_, _*_, _≤_, _<_}
 use native.Mathlib.Nat.{mul-le-mul}
 use native.Mathlib.Omega.{arith}
-use native.Mathlib.Decide.{ℕ-discrete}
 use lib.ListN.{length, getD, length-append}
 use lib.Dec.{eqb}
 use borrow.Author.Tests.{ne-eqb, eq-eqb}
-use Rattle.rules.specs.Bytes.{pick, zeros, part, wordAt, over}
+use Rattle.rules.specs.Bytes.{pick}
 use Rattle.rules.specs.Image.{index, isData}
 use Rattle.rules.specs.Stores.{Store, store, stored}
 use Rattle.rules.specs.Directory.{slotsOf}
 use Rattle.rules.specs.Transfer.{linked}
-use Rattle.laws.specs.Bytes.{over-is-sets, word-put}
+use Rattle.laws.specs.Bytes.{over-is-sets}
 use Rattle.chains.specs.Tally.{tally, tally-head, flat}
 use Rattle.chains.specs.Once.{Once, once-length}
 use Rattle.laws.specs.Addresses.{Shape}

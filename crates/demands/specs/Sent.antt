@@ -1,34 +1,31 @@
 -- What is sent into a file that a block writes, whatever other blocks do.
-use mathlib.Core.Path.{_≡_, refl, sym, ap, ap₂, _∙_, subst}
+use mathlib.Core.Path.{_≡_, refl, sym, ap, _∙_, subst}
 use mathlib.Core.Logic.{_≢_}
 use mathlib.Core.Bool.{Bool, true, false}
 use mathlib.Core.List.{List, [], _∷_, _++_, append-assoc, append-nil}
-use Prim.Native.Nat.{ℕ, zero, suc, _+_, _-_, _*_, _/_, _%_, _≤_, _<_}
+use Prim.Native.Nat.{ℕ, suc, _+_, _*_, _≤_, _<_}
 use native.Mathlib.Omega.{arith}
 use native.Mathlib.Decide.{ℕ-discrete, decLt}
 use lib.ListN.{length, getD, set, length-append}
-use lib.Seq.{getD-set-same, getD-set-other}
-use lib.Dec.{eqb, ltb}
-use borrow.Author.Tests.{eq-eqb, ne-eqb, eqb-true, eqb-false, lt-ltb, le-ltb}
-use Rattle.rules.specs.Bytes.{pick, wordAt, zeros, within}
+use lib.Seq.{getD-set-same}
+use lib.Dec.{eqb}
+use borrow.Author.Tests.{eq-eqb, ne-eqb, le-ltb}
+use Rattle.rules.specs.Bytes.{pick, zeros, within}
 use Rattle.rules.specs.Directory.{live, slotsOf}
 use Rattle.rules.specs.Call.{served, fits}
-use Rattle.rules.specs.Block.{idle}
 use Rattle.laws.specs.Addresses.{Shape}
-use Rattle.chains.specs.Addresses.{absurd-bool}
-use Rattle.chains.specs.Chain.{contents, setLast, length-contents, empty}
+use Rattle.chains.specs.Chain.{setLast, length-contents}
 use Rattle.chains.specs.Directory.{Listing}
-use Rattle.demands.specs.Ledger.{File, noFile, Block, closed, listing, reading, writing, Ledger, Request, Fate, denied, granted, reply, after, Sought, slot, busy, holdsOpen, activity, block, file, onBlock, onFile, withLast, withNew, padTo, taken, transferred, performed, fate}
-use Rattle.demands.specs.Relation.{tb, opens, writes, Reading, Writing, Keeps, Agrees}
-use Rattle.demands.specs.Meets.{request, Sure}
+use Rattle.demands.specs.Ledger.{File, noFile, Block, closed, writing, Ledger, Request, Fate, denied, granted, reply, after, slot, busy, activity, block, file, onBlock, onFile, withLast, withNew, padTo, taken, transferred, performed, fate}
+use Rattle.demands.specs.Relation.{opens, writes, Writing, Keeps}
+use Rattle.demands.specs.Meets.{request}
 use Rattle.demands.specs.Searches.{not-busy, not-open}
-use Rattle.demands.specs.Sectors.{length-pad}
 use Rattle.demands.specs.Tidy.{nameOf}
 use Rattle.demands.specs.Changes.{Change, Changes, changes, other-block, Slot, kept, own, fresh, lost, moved, slot-fate, live-not-room, open-live}
-use Rattle.demands.specs.Service.{flex, Call, setting, extending, asking, Machine, Entry, answers, gave, next, entry, run, log}
+use Rattle.demands.specs.Service.{flex, Call, setting, extending, asking, Machine, Entry, answers, gave, next, entry, log}
 use Rattle.demands.specs.History.{then, history, concat, front, content, Only, sentBy}
 use Rattle.demands.specs.Demands.{Accepts}
-use Rattle.demands.specs.Runs.{Fine, Step, step, one, set-step, extend-step}
+use Rattle.demands.specs.Runs.{Fine, step, one, set-step, extend-step}
 
 -- ---- the fate of a request that passes the shared checks
 

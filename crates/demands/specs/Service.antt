@@ -1,9 +1,7 @@
 -- A service: its entries as functions on lists. Ours, by the rules. Lists of calls, and the log that they leave.
 use mathlib.Core.Path.{_≡_, refl}
-use mathlib.Core.Bool.{Bool, true, false}
 use mathlib.Core.List.{List, [], _∷_, _++_}
-use Prim.Native.Nat.{ℕ, zero, suc, _+_, _*_}
-use lib.ListN.{length, getD}
+use Prim.Native.Nat.{ℕ}
 use Rattle.rules.specs.Stores.{stored, puts}
 use Rattle.rules.specs.Outcome.{Effect, effect, answer, given, onImage, onBlock, Out, out, left}
 use Rattle.rules.specs.Block.{blockAt}

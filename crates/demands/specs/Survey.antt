@@ -3,29 +3,27 @@ use mathlib.Core.Path.{_≡_, refl, sym, ap, ap₂, _∙_, subst}
 use mathlib.Core.Logic.{_≢_}
 use mathlib.Core.Bool.{Bool, true, false}
 use mathlib.Core.List.{List, [], _∷_, _++_}
-use Prim.Native.Nat.{ℕ, zero, suc, _+_, _-_, _*_, _/_, _%_, _≤_, _<_}
+use Prim.Native.Nat.{ℕ, zero, suc, _+_, _*_, _≤_, _<_}
 use native.Mathlib.Omega.{arith}
-use native.Mathlib.Decide.{ℕ-discrete}
-use lib.ListN.{length, getD, set, replicate, length-append, getD-replicate}
+use lib.ListN.{length, getD, replicate, getD-replicate}
 use lib.Seq.{ext-getD}
 use lib.Dec.{eqb}
 use Rattle.rules.specs.Bytes.{pick, wordAt, part}
-use Rattle.rules.specs.Image.{lastTrack, perTrack, firstFree, freeCount}
+use Rattle.rules.specs.Image.{firstFree, freeCount}
 use Rattle.rules.specs.Directory.{live, neverUsed, directory, slots, slotsOf, startAt, endAt, sizeAt}
-use Rattle.rules.specs.Census.{Survey, survey, census, chainRight, numbersFrom, freeRight, fileRight, filesRight, fileNumbers, fileOwners, filesNumbers, filesOwners, listed, owners, eachOnce}
+use Rattle.rules.specs.Census.{chainRight, numbersFrom, freeRight, fileRight, filesRight, fileNumbers, fileOwners, filesNumbers, filesOwners, listed, owners, eachOnce}
 use Rattle.laws.specs.Bytes.{length-part}
 use Rattle.laws.specs.Small.{Small}
 use Rattle.laws.specs.Surveys.{Sane}
 use Rattle.chains.specs.Tally.{tally, tally-append, flat}
-use Rattle.chains.specs.Once.{Once, once-length}
 use Rattle.laws.specs.Tests.{both}
 use Rattle.laws.specs.Addresses.{Shape}
-use Rattle.chains.specs.Addresses.{Sized, absurd-bool}
+use Rattle.chains.specs.Addresses.{Sized}
 use Rattle.chains.specs.Chain.{Chain, contents}
 use Rattle.chains.specs.Directory.{Listing, directory-is, directory-sound}
-use Rattle.chains.specs.Walk.{walk, chainAt, length-walk, numbers, numbers-append, numbers-walk, AllData, chain-sound, chain-complete, once-sound, once-complete}
+use Rattle.chains.specs.Walk.{chainAt, length-walk, numbers, numbers-append, numbers-walk, AllData, chain-sound, chain-complete, once-sound, once-complete}
 use Rattle.demands.specs.Ledger.{File, noFile, Block, closed, Ledger}
-use Rattle.demands.specs.Relation.{tb, secsOf, opens, writes, Holds, Keeps, Agrees}
+use Rattle.demands.specs.Relation.{tb, secsOf, writes, Holds, Keeps, Agrees}
 use Rattle.demands.specs.Sectors.{free-data, free-count, secs-data, secs-count}
 use Rattle.demands.specs.Searches.{live-at, part-head}
 use Rattle.demands.specs.Tidy.{nameOf, Tidy, holed-sound, holed-complete, twins-sound, twins-complete}

@@ -1,36 +1,33 @@
 -- A file that is written takes the first free sector; function 0 in writing.
 use mathlib.Core.Path.{_≡_, refl, sym, ap, ap₂, _∙_, subst}
 use mathlib.Core.Logic.{_≢_}
-use mathlib.Core.Bool.{Bool, true, false}
 use mathlib.Core.List.{List, [], _∷_, _++_}
 use Prim.Native.Nat.{ℕ, zero, suc, _+_, _-_, _*_, _/_, _%_, _≤_, _<_}
 use native.Mathlib.Omega.{arith}
 use native.Mathlib.Decide.{ℕ-discrete}
-use lib.ListN.{length, getD, set, drop}
+use lib.ListN.{length, getD, drop}
 use lib.Seq.{getD-set-same}
 use lib.Dec.{eqb}
 use borrow.Author.Tests.{ne-eqb, eq-eqb}
-use Rattle.rules.specs.Bytes.{pick, byteAt, wordAt, part, one, two, six, zeros}
+use Rattle.rules.specs.Bytes.{pick, wordAt, one, two, six, zeros}
 use Rattle.rules.specs.Stores.{Store, store, stored, Put, put, puts}
-use Rattle.rules.specs.Image.{index, isData}
 use Rattle.rules.specs.Directory.{slotsOf}
-use Rattle.rules.specs.Outcome.{Outcome, refuse, done, andThen}
-use Rattle.rules.specs.Transfer.{fresh, linked, takeStores, takePuts, takeFor, takeSector, sent, fill}
+use Rattle.rules.specs.Outcome.{andThen}
+use Rattle.rules.specs.Transfer.{fresh, takeStores, takePuts, takeFor, takeSector, sent, fill}
 use Rattle.laws.specs.Bytes.{word-put, part-is, part-same, length-zeros, zeros-at}
 use Rattle.chains.specs.Tally.{tally, tally-append, tally-head, eq1-same, apart}
 use Rattle.laws.specs.Addresses.{Shape}
 use Rattle.chains.specs.Addresses.{adr, adr-zero, absurd-bool}
-use Rattle.chains.specs.Chain.{first, lastOf, Seg, Chain, contents, tally-last, not-in, last-snoc, seg-same, seg-hang, contents-same, contents-append}
+use Rattle.chains.specs.Chain.{first, lastOf, Chain, tally-last, last-snoc, seg-same, seg-hang, contents-same, contents-append}
 use Rattle.chains.specs.Directory.{Listing}
-use Rattle.laws.specs.Stores.{length-stored}
-use Rattle.chains.specs.Stored.{placeAt, bytesOf, noStore, Off, fieldOf, valuesOf, noPut, Clear, stored-off, stored-at, puts-clear, puts-at, length-fresh, fresh-link, fresh-data, length-snoc}
+use Rattle.chains.specs.Stored.{Off, fieldOf, valuesOf, noPut, Clear, stored-off, stored-at, puts-clear, puts-at, length-fresh, fresh-link, fresh-data, length-snoc}
 use Rattle.chains.specs.Frame.{Frame, framed, Lies, in-record, in-sector, in-slot, of-nothing}
-use Rattle.demands.specs.Ledger.{File, noFile, Block, closed, listing, reading, writing, Ledger, Request, Fate, denied, granted, onBlock, onFile, withLast, withNew, padTo, taken, transferred}
-use Rattle.demands.specs.Relation.{tb, t2, tp, opens, writes, secsOf, Holds, Writing, Keeps, Agrees, t2-same, tp-same, Turn, step, long, all-high}
+use Rattle.demands.specs.Ledger.{File, noFile, closed, writing, Ledger, Request, denied, granted, onFile, withNew, taken, transferred}
+use Rattle.demands.specs.Relation.{tb, t2, opens, writes, Holds, Writing, Agrees, tp-same, step, long}
 use Rattle.demands.specs.Quiet.{turned, alone1, alone2, nobody}
-use Rattle.demands.specs.Meets.{Meets, meets-pick, meets-when}
+use Rattle.demands.specs.Meets.{Meets}
 use Rattle.chains.specs.Walk.{AllData}
-use Rattle.demands.specs.Sectors.{free-data, secs-data, secs-once, few, fits, sector-pos, sector-small, sector-index, sector-data, last-data, last-none, first-none, index-last, last-fit, first-small, last-small, linked-is}
+use Rattle.demands.specs.Sectors.{free-data, secs-data, secs-once, few, fits, sector-small, sector-index, sector-data, last-data, last-none, first-none, index-last, last-fit, first-small, last-small, linked-is}
 use Rattle.demands.specs.Marks.{slot-low, slot-high, slot-in}
 use Rattle.demands.specs.Fills.{w, placed-is, buffer-is, write-in, full-step}
 

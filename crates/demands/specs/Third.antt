@@ -1,36 +1,33 @@
 -- DEMAND 3 of our service.
 use mathlib.Core.Path.{_≡_, refl, sym, ap, ap₂, _∙_, subst}
-use mathlib.Core.Logic.{_≢_}
 use mathlib.Core.Bool.{Bool, true, false}
 use mathlib.Core.List.{List, [], _∷_, _++_}
-use Prim.Native.Nat.{ℕ, zero, suc, _+_, _-_, _*_, _/_, _%_, _≤_, _<_}
+use Prim.Native.Nat.{ℕ, zero, suc, _+_, _-_, _*_, _≤_, _<_}
 use native.Mathlib.Omega.{arith}
 use native.Mathlib.Decide.{ℕ-discrete}
-use lib.ListN.{length, getD, replicate, length-append, getD-replicate}
+use lib.ListN.{length, getD, replicate, getD-replicate}
 use lib.Dec.{eqb}
-use borrow.Author.Tests.{eq-eqb, ne-eqb}
-use Rattle.rules.specs.Bytes.{pick, part, zeros}
+use borrow.Author.Tests.{ne-eqb}
+use Rattle.rules.specs.Bytes.{pick, part}
 use Rattle.rules.specs.Image.{lastTrack, perTrack}
-use Rattle.rules.specs.Directory.{live, directory, slots, slotsOf, placeOf}
-use Rattle.rules.specs.Block.{uses}
-use Rattle.rules.specs.Census.{Survey, survey, census, listed, owners, eachOnce}
+use Rattle.rules.specs.Directory.{live, directory, slots, slotsOf}
+use Rattle.rules.specs.Census.{Survey, survey, census, listed, owners}
 use Rattle.laws.specs.Bytes.{part-is}
 use Rattle.laws.specs.Surveys.{Sane, census-accepts}
 use Rattle.chains.specs.Tally.{tally, flat}
 use Rattle.chains.specs.Once.{Once, once-length}
 use Rattle.laws.specs.Addresses.{Shape}
-use Rattle.chains.specs.Addresses.{Sized}
 use Rattle.chains.specs.Chain.{contents}
 use Rattle.chains.specs.Directory.{Listing, directory-is}
 use Rattle.chains.specs.Walk.{numbers, length-numbers, tally-is, each-sound, once-complete}
 use Rattle.demands.specs.Ledger.{File, noFile, Block, closed, listing, reading, writing, Ledger, holdsOpen}
-use Rattle.demands.specs.Relation.{tb, secsOf, writes, Writing, Keeps, Agrees}
+use Rattle.demands.specs.Relation.{secsOf, writes, Keeps, Agrees}
 use Rattle.demands.specs.Searches.{live-at, uses-is}
-use Rattle.demands.specs.Survey.{ledgerOf, ledgerNumbers, ledgerOwners, sectorsAt, fileAt, filesAt, files-at, listed-is, owners-is, file-is, ledger-free, ledger-slots, sane-back}
-use Rattle.demands.specs.Service.{Service, flex, Call, Machine, Entry, run, log}
-use Rattle.demands.specs.History.{history, Told, content, Shown, unfinished, pending, shownFrom, shown, buffered, filesOn, Unnamed}
-use Rattle.demands.specs.Demands.{Start, dataSectors, Sound, Demand3}
-use Rattle.demands.specs.Runs.{Fine, always, start-sane, start-shape, start-shaped, start-list, start-fine}
+use Rattle.demands.specs.Survey.{ledgerOf, ledgerNumbers, ledgerOwners, sectorsAt, fileAt, files-at, listed-is, owners-is, file-is, ledger-free, ledger-slots, sane-back}
+use Rattle.demands.specs.Service.{flex, Call, Machine, run, log}
+use Rattle.demands.specs.History.{history, Told, unfinished, pending, shownFrom, shown, buffered, filesOn}
+use Rattle.demands.specs.Demands.{Start, Sound, Demand3}
+use Rattle.demands.specs.Runs.{Fine, always, start-shape, start-list, start-fine}
 use Rattle.demands.specs.Rests.{Rests, rests-same}
 
 -- ---- of a machine that agrees with a ledger

@@ -1,15 +1,13 @@
 -- 43: no live slot after a never-used one, no two live slots with one name. In the image, in the ledger; and that calls keep it so.
-use mathlib.Core.Path.{_≡_, refl, sym, ap, ap₂, _∙_, subst}
+use mathlib.Core.Path.{_≡_, refl, sym, ap, _∙_}
 use mathlib.Core.Logic.{_≢_}
 use mathlib.Core.Bool.{Bool, true, false}
-use mathlib.Core.List.{List, [], _∷_, _++_}
-use Prim.Native.Nat.{ℕ, zero, suc, _+_, _-_, _*_, _≤_, _<_}
+use mathlib.Core.List.{List, [], _∷_}
+use Prim.Native.Nat.{ℕ, zero, suc, _<_}
 use native.Mathlib.Omega.{arith}
 use native.Mathlib.Decide.{ℕ-discrete}
 use lib.ListN.{length, getD, set, length-set}
 use lib.Seq.{getD-set-same, getD-set-other}
-use lib.Dec.{eqb}
-use borrow.Author.Tests.{eq-eqb, ne-eqb, eqb-true, eqb-false}
 use Rattle.rules.specs.Bytes.{pick, part, same}
 use Rattle.rules.specs.Directory.{neverUsed, deleted, live, onSeen, named, vacant, searchStops}
 use Rattle.rules.specs.Census.{anyLive, holed, namesake, twins}
@@ -18,7 +16,7 @@ use Rattle.rules.specs.declared.Seen.the-variants.{Hit, Stop, Pass}
 use Rattle.laws.specs.Bytes.{same-refl, same-eq, part-all}
 use Rattle.chains.specs.Addresses.{absurd-bool}
 use Rattle.demands.specs.Ledger.{File, noFile, Sought, nowhere, slot, later, seek, fileNamed, vacantSlot}
-use Rattle.demands.specs.Searches.{Sat, seek-found, Named, named-hit, slot-same}
+use Rattle.demands.specs.Searches.{Sat, seek-found, named-hit, slot-same}
 
 -- ---- the image
 
