@@ -7,7 +7,7 @@ use native.Mathlib.Omega.{arith}
 use lib.ListN.{length, getD}
 use Rattle.rules.specs.Bytes.{wordAt, part}
 use Rattle.laws.specs.Bytes.{word-same, part-same}
-use Rattle.chains.specs.Tally.{tally, tally-head, eq1, eq1-same, eq1-pos}
+use Rattle.chains.specs.Tally.{tally, tally-head, eq1-same, eq1-pos}
 use Rattle.chains.specs.Addresses.{adr}
 
 -- the first and the last of a list, x if it is empty
@@ -55,9 +55,6 @@ first-in (k ∷ l) x h = tally-head k l
 pub first-getD : (l : List ℕ) → first l 0 ≡ getD l 0 0
 first-getD [] = refl
 first-getD (k ∷ l) = refl
-
-pub not-in : (j k : ℕ) (l : List ℕ) → tally j (k ∷ l) ≡ 0 → j ≢ k
-not-in j k l h e = let t : eq1 j j ≡ eq1 j k = ap (λ (x : ℕ). eq1 j x) e in omega (arith, t, eq1-same j)
 
 pub in-one : (j k : ℕ) → 1 ≤ tally j (k ∷ []) → j ≡ k
 in-one j k h = eq1-pos j k (omega arith)

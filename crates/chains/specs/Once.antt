@@ -71,24 +71,5 @@ unfolding sumT
 sum-ones lo zero l f = refl
 sum-ones lo (suc d) l f = omega (arith, f (lo + d) (omega arith) (omega arith), sum-ones lo d l (λ x a b. f x a (omega arith)))
 
-sum-le : (lo d : ℕ) (l : List ℕ) → ((x : ℕ) → tally x l ≤ 1) → sumT lo d l ≤ d
-unfolding sumT
-sum-le lo zero l f = omega arith
-sum-le lo (suc d) l f = omega (arith, f (lo + d), sum-le lo d l f)
-
-full-ones : (lo d : ℕ) (l : List ℕ) → ((x : ℕ) → tally x l ≤ 1) → sumT lo d l ≡ d → (x : ℕ) → lo ≤ x → x < lo + d → tally x l ≡ 1
-unfolding sumT
-full-ones lo zero l f s x a b = absurd (omega arith)
-full-ones lo (suc d) l f s x a b = go (full-ones lo d l f (omega (arith, f (lo + d), sum-le lo d l f)) x a) (ℕ-discrete x (lo + d))
-  where
-    go : (x < lo + d → tally x l ≡ 1) → Dec (x ≡ lo + d) → tally x l ≡ 1
-    go ih (yes e) = omega (arith, ap (λ (y : ℕ). tally y l) e, f (lo + d), sum-le lo d l f)
-    go ih (no n) = ih (omega arith)
-
 pub once-length : (lo d : ℕ) (l : List ℕ) → Once lo (lo + d) l → length l ≡ d
 once-length lo d l o = sym (sum-length lo d l (λ x h. (o .low x h, o .high x h))) ∙ sum-ones lo d l (o .inside)
-
--- no number twice, all in range, and as many as there are: each once
-pub once-count : (lo d : ℕ) (l : List ℕ) → ((x : ℕ) → 1 ≤ tally x l → (lo ≤ x) × (x < lo + d)) → ((x : ℕ) → tally x l ≤ 1) → length l ≡ d → Once lo (lo + d) l
-once-count lo d l r f e =
-    record { inside = full-ones lo d l f (sum-length lo d l r ∙ e); low = λ x b. r x b .0; high = λ x b. r x b .1 }

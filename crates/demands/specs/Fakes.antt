@@ -30,6 +30,13 @@ readsNow tab n = pick (eqb (byteAt tab (320 * n + 0)) 0) (eqb (byteAt tab (320 *
 abbrev createsNow : List ℕ → ℕ → Bool
 createsNow tab n = eqb (byteAt tab (320 * n + 0)) 2
 
+-- ours, with another call; with another census
+abbrev withCall : (List ℕ → List ℕ → ℕ → ℕ → Out) → Service
+withCall f = record { preset = flex .preset; extension = flex .extension; call = f; census = flex .census }
+
+abbrev withCensus : (Survey → Survey) → Service
+withCensus f = record { preset = flex .preset; extension = flex .extension; call = flex .call; census = λ img xs ys. f (flex .census img xs ys) }
+
 -- it refuses everything
 abbrev pub refusing : Service
 refusing = record {
@@ -41,35 +48,26 @@ refusing = record {
 
 -- it refuses every call, and no more
 abbrev pub deaf : Service
-deaf = record { preset = flex .preset; extension = flex .extension; call = λ img tab n b. out 18 0 img (over tab (320 * n + 1) (one 18)); census = flex .census }
+deaf = withCall (λ img tab n b. out 18 0 img (over tab (320 * n + 1) (one 18)))
 
 -- one fixed byte on every read
 abbrev stamped : Bool → Out → Out
 stamped u (out a b img tab) = out a (pick u 42 b) img tab
 
 abbrev pub stuck : Service
-stuck = record { preset = flex .preset; extension = flex .extension; call = λ img tab n b. stamped (readsNow tab n) (flex .call img tab n b); census = flex .census }
+stuck = withCall (λ img tab n b. stamped (readsNow tab n) (flex .call img tab n b))
 
 -- a write that does nothing and answers 0
 abbrev pub nodding : Service
-nodding = record {
-  preset = flex .preset;
-  extension = flex .extension;
-  call = λ img tab n b. pick (writesNow tab n) (out 0 0 img tab) (flex .call img tab n b);
-  census = flex .census;
-}
+nodding = withCall (λ img tab n b. pick (writesNow tab n) (out 0 0 img tab) (flex .call img tab n b))
 
--- an open that does the allocation, writes that only nod
+-- an open that does the allocation, and writes that only nod
 abbrev thenWrites : ℕ → Out → Out
 thenWrites n (out a b img tab) = pick (eqb a 0) (flex .call img tab n 0) (out a b img tab)
 
 abbrev pub eager : Service
-eager = record {
-  preset = flex .preset;
-  extension = flex .extension;
-  call = λ img tab n b. pick (createsNow tab n) (thenWrites n (flex .call img tab n b)) (pick (writesNow tab n) (out 0 0 img tab) (flex .call img tab n b));
-  census = flex .census;
-}
+eager = withCall (λ img tab n b.
+    pick (createsNow tab n) (thenWrites n (flex .call img tab n b)) (pick (writesNow tab n) (out 0 0 img tab) (flex .call img tab n b)))
 
 -- a census with an invented count: the first sector of its lists is left out
 abbrev shorter : List ℕ → List ℕ
@@ -80,7 +78,7 @@ abbrev fewer : Survey → Survey
 fewer (survey a xs ys) = pick (eqb a 0) (survey a (shorter xs) (shorter ys)) (survey a xs ys)
 
 abbrev pub counting : Service
-counting = record { preset = flex .preset; extension = flex .extension; call = flex .call; census = λ img xs ys. fewer (flex .census img xs ys) }
+counting = withCensus fewer
 
 -- a census with an invented list: all sectors in rising order, all free. On a blank diskette that is true
 abbrev rising : ℕ → ℕ → List ℕ
@@ -91,7 +89,7 @@ abbrev listedFree : Survey → Survey
 listedFree (survey a xs ys) = pick (eqb a 0) (survey a (rising 0 (length xs)) (zeros (length ys))) (survey a xs ys)
 
 abbrev pub inventing : Service
-inventing = record { preset = flex .preset; extension = flex .extension; call = flex .call; census = λ img xs ys. listedFree (flex .census img xs ys) }
+inventing = withCensus listedFree
 
 -- ---- refuted
 

@@ -146,9 +146,6 @@ module _ (M S : ℕ) (z : Shape M S) (ds : List ℕ) (d : Listing S ds) where
     abbrev qc : Request
     qc = request (x .tab) n b
 
-    abbrev fl : File
-    fl = file a s
-
     wr : Writing S (slotsOf ds) (x .tab) n (file a s) s (w .left)
     wr = subst (λ (y : Block). Keeps S (slotsOf ds) (x .tab) n (a .slots) y) (w .block) (g .agrees .keeps n hn)
 
