@@ -50,6 +50,15 @@ refusing = record {
 abbrev pub deaf : Service
 deaf = withCall (λ img tab n b. out 18 0 img (over tab (320 * n + 1) (one 18)))
 
+-- it does nothing, and answers 0
+abbrev pub idling : Service
+idling = record {
+  preset = λ tab n i v. replied 0 tab;
+  extension = λ tab n c. replied 0 tab;
+  call = λ img tab n b. out 0 0 img tab;
+  census = flex .census;
+}
+
 -- one fixed byte on every read
 abbrev stamped : Bool → Out → Out
 stamped u (out a b img tab) = out a (pick u 42 b) img tab
@@ -143,3 +152,15 @@ inventing-fails d =
     let q : _≡_ {A = ℕ} 0 1 =
     ap (λ (s : Survey). getD (surveySecond s) 4 0) (d blank blank-start (named ++ (asking 0 0 ∷ asking 0 7 ∷ [])) .accepted (zeros 5) (zeros 5) refl refl) in
     omega arith
+
+-- ---- and demand 3 is met by no service that refuses all calls, and by none that does nothing
+
+pub deaf-fails-too : Demand3 deaf → ⊥
+unfolding rules blank blankImage blankStores run next named log entry history ledgerOf filesAt fileAt walk fate performed openedToWrite seek
+deaf-fails-too d =
+    let q : _≡_ {A = ℕ} 18 0 = d blank blank-start (named ++ (asking 0 0 ∷ [])) .answered .0 in omega arith
+
+pub idling-fails : Demand3 idling → ⊥
+unfolding rules blank blankImage blankStores run next log entry history ledgerOf filesAt fileAt walk fate performed
+idling-fails d =
+    let q : _≡_ {A = ℕ} 0 18 = d blank blank-start (asking 0 0 ∷ []) .answered .0 in omega arith
