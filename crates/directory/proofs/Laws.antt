@@ -1,15 +1,15 @@
 -- Each way through the functions of this crate, and each turn and way out of their loops. In a loop's laws w is the answer.
 use mathlib.Core.Path.{_≡_, refl, sym, ap, _∙_}
 use mathlib.Core.Bool.{Bool, true, false}
-use mathlib.Core.List.{List, [], _∷_, _++_}
-use Prim.Native.Nat.{ℕ, zero, suc, _+_, _-_, _*_, _/_, _%_, _≤_, _<_}
+use mathlib.Core.List.{List, []}
+use Prim.Native.Nat.{ℕ, _+_, _-_, _*_, _/_, _%_, _≤_, _<_}
 use native.Mathlib.Omega.{arith}
 use lib.ListN.{getD}
 use lib.Dec.{leb}
 use borrow.Author.Tests.{le-leb, lt-leb, lt-ltb, le-ltb, eq-eqb, ne-eqb}
-use Rattle.rules.specs.Bytes.{pick, within, part, same}
+use Rattle.rules.specs.Bytes.{within, part, same}
 use Rattle.rules.specs.Image.{trackOf, sectorOf, index, linkOf}
-use Rattle.rules.specs.Directory.{isDirectory, stepTo, nextOf, onNext, mostOfDirectory, ends, directoryRight, sectorsFrom, directory, slotsAt, firstSlotOf, slotsOf, slots, neverUsed, deleted, live, onSeen, scan, searchStops, named, vacant, lookupOf, inDirectory, find, vacancy, member, isDisplacement, placed, slotBehind}
+use Rattle.rules.specs.Directory.{isDirectory, stepTo, nextOf, onNext, mostOfDirectory, ends, directoryRight, sectorsFrom, directory, slotsAt, firstSlotOf, slotsOf, slots, neverUsed, deleted, live, scan, searchStops, named, vacant, lookupOf, find, vacancy, member, isDisplacement, placed, slotBehind}
 use Rattle.rules.specs.declared.Next.{Next}
 use Rattle.rules.specs.declared.Next.the-variants.{End, To, Astray}
 use Rattle.rules.specs.declared.Seen.{Seen}
@@ -18,7 +18,7 @@ use Rattle.rules.specs.declared.Found.{Found}
 use Rattle.rules.specs.declared.Found.the-variants.{Slot, Stopped, Further}
 use Rattle.rules.specs.declared.Lookup.{Lookup}
 use Rattle.rules.specs.declared.Lookup.the-variants.{At, Missing, Broken}
-use Rattle.laws.specs.Bytes.{same-no, same-on, same-end}
+use Rattle.laws.specs.Bytes.{same-no, same-on}
 use Rattle.laws.specs.Walk.{ends-more, ends-none, sectors-more, sectors-none, slots-more, slots-none}
 use Rattle.laws.specs.Addresses.{index-small}
 use Rattle.laws.specs.Slots.{further, scan-append, placed-is}

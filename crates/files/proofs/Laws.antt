@@ -2,7 +2,7 @@
 -- test refuses it, and tests on what was loaded before. Of what the code has, r is an answer, v a test's result, i an image, t a table.
 use mathlib.Core.Path.{_≡_, refl}
 use mathlib.Core.Bool.{Bool, true, false}
-use mathlib.Core.List.{List, [], _∷_}
+use mathlib.Core.List.{List}
 use Prim.Native.Nat.{ℕ, _+_, _*_}
 use lib.ListN.{getD}
 use borrow.Author.Tests.{ne-eqb}

@@ -1,11 +1,11 @@
 -- Parts of the rules of functions, which functions of the code have for their promises.
-use mathlib.Core.Bool.{Bool, true, false}
-use mathlib.Core.List.{List, [], _∷_, _++_}
-use Prim.Native.Nat.{ℕ, _+_, _*_, _/_, _%_}
-use Rattle.rules.specs.Bytes.{pick, byteAt, wordAt, part, one, zeros}
-use Rattle.rules.specs.Stores.{Store, store, Put, put}
+use mathlib.Core.Bool.{true, false}
+use mathlib.Core.List.{List, [], _∷_}
+use Prim.Native.Nat.{ℕ, _+_, _/_, _%_}
+use Rattle.rules.specs.Bytes.{byteAt, wordAt, part, one, zeros}
+use Rattle.rules.specs.Stores.{store, Put, put}
 use Rattle.rules.specs.Directory.{directoryRight, firstOfDirectory, firstSlotOf, find, vacancy, placeOf, attributesAt}
-use Rattle.rules.specs.Outcome.{Outcome, refuse, done, unless, when, onSlot, onNone}
+use Rattle.rules.specs.Outcome.{Outcome, done, unless, when, onSlot, onNone}
 use Rattle.rules.specs.Block.{functionField, activityField, nameField, positionField, placeField, compressionField, newNameIn, inUse}
 use Rattle.rules.specs.Files.{opened, newEntry, shown, writeProtected, deleteProtected, remove}
 use Rattle.directory.specs.Sought.{behind}
