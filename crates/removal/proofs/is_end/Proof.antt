@@ -1,8 +1,8 @@
 use Rattle.laws.specs.Tests.{tests}
-use Rattle.files.specs.Parts.{isEnd}
+use Rattle.removal.specs.Hanging.{isEnd}
 use borrow.Author.Needs.{needs}
-use Rattle.files.proofs.is_end.Statement.{statement}
-use Rattle.files.proofs.is_end.Tie as tie
+use Rattle.removal.proofs.is_end.Statement.{statement}
+use Rattle.removal.proofs.is_end.Tie as tie
 
 pub is-end-spec : {M : Type 1} → statement M
 unfolding isEnd

@@ -1,7 +1,7 @@
-use Rattle.files.proofs.Laws.{hung}
+use Rattle.removal.proofs.Laws.{hung}
 use borrow.Author.Needs.{needs}
-use Rattle.files.proofs.hang.Statement.{statement}
-use Rattle.files.proofs.hang.Tie as tie
+use Rattle.removal.proofs.hang.Statement.{statement}
+use Rattle.removal.proofs.hang.Tie as tie
 
 pub hang-spec : {M : Type 1} → statement M
 hang-spec =

@@ -1,7 +1,7 @@
-use Rattle.files.proofs.Laws.{delete-bit}
+use Rattle.entries.proofs.Laws.{delete-bit}
 use borrow.Author.Needs.{needs}
-use Rattle.files.proofs.is_delete_protected.Statement.{statement}
-use Rattle.files.proofs.is_delete_protected.Tie as tie
+use Rattle.entries.proofs.is_delete_protected.Statement.{statement}
+use Rattle.entries.proofs.is_delete_protected.Tie as tie
 
 pub is-delete-protected-spec : {M : Type 1} → statement M
 is-delete-protected-spec =

@@ -1,7 +1,7 @@
-use Rattle.files.proofs.Laws.{marked-shown}
+use Rattle.removal.proofs.Laws.{marked-shown}
 use borrow.Author.Needs.{needs}
-use Rattle.files.proofs.show_marked.Statement.{statement}
-use Rattle.files.proofs.show_marked.Tie as tie
+use Rattle.removal.proofs.show_marked.Statement.{statement}
+use Rattle.removal.proofs.show_marked.Tie as tie
 
 pub show-marked-spec : {M : Type 1} → statement M
 show-marked-spec =

@@ -1,7 +1,7 @@
-use Rattle.files.proofs.Laws.{write-bit}
+use Rattle.entries.proofs.Laws.{write-bit}
 use borrow.Author.Needs.{needs}
-use Rattle.files.proofs.is_write_protected.Statement.{statement}
-use Rattle.files.proofs.is_write_protected.Tie as tie
+use Rattle.entries.proofs.is_write_protected.Statement.{statement}
+use Rattle.entries.proofs.is_write_protected.Tie as tie
 
 pub is-write-protected-spec : {M : Type 1} → statement M
 is-write-protected-spec =

@@ -1,8 +1,8 @@
 use borrow.Author.Tests.{not-true, not-false}
-use Rattle.files.proofs.Laws.{hang-fits, removed-empty, remove-refused, removed}
+use Rattle.removal.proofs.Laws.{hang-fits, removed-empty, remove-refused, removed}
 use borrow.Author.Needs.{needs}
-use Rattle.files.proofs.remove.Statement.{statement}
-use Rattle.files.proofs.remove.Tie as tie
+use Rattle.removal.proofs.remove.Statement.{statement}
+use Rattle.removal.proofs.remove.Tie as tie
 
 pub remove-spec : {M : Type 1} → statement M
 remove-spec =

@@ -1,7 +1,7 @@
-use Rattle.files.proofs.Laws.{marked}
+use Rattle.removal.proofs.Laws.{marked}
 use borrow.Author.Needs.{needs}
-use Rattle.files.proofs.mark.Statement.{statement}
-use Rattle.files.proofs.mark.Tie as tie
+use Rattle.removal.proofs.mark.Statement.{statement}
+use Rattle.removal.proofs.mark.Tie as tie
 
 pub mark-spec : {M : Type 1} → statement M
 mark-spec =

@@ -1,8 +1,8 @@
 use borrow.Author.Tests.{not-true, not-false}
-use Rattle.files.proofs.Laws.{start-bad, end-bad, tail-bad, sum-bad, all-good}
+use Rattle.removal.proofs.Laws.{start-bad, end-bad, tail-bad, sum-bad, all-good}
 use borrow.Author.Needs.{needs}
-use Rattle.files.proofs.may_hang.Statement.{statement}
-use Rattle.files.proofs.may_hang.Tie as tie
+use Rattle.removal.proofs.may_hang.Statement.{statement}
+use Rattle.removal.proofs.may_hang.Tie as tie
 
 pub may-hang-spec : {M : Type 1} → statement M
 may-hang-spec =
