@@ -167,7 +167,7 @@ module _ (M S : ℕ) (z : Shape M S) (img : List ℕ) where
             record { seg = (eqb-true (linkOf img k) 0 e ∙ sym (adr-zero S), tt); head = refl; some = omega arith; few = omega arith; within = one }
         go false e false f h ih = absurd-bool h refl
         go false e true f h ih =
-            let d = directory-index S (z .sectors) (linkOf img k) (word-small (256 * k)) f in
+            let d = directory-index S (linkOf img k) (word-small (256 * k)) f in
             let w = ih (index S (linkOf img k)) (d .1) (d .2) h in
             record {
               seg = (sym (d .0) ∙ sym (adr-directory (index S (linkOf img k)) (d .1) (d .2)) ∙ ap (adr S) (sym (w .head)), w .seg);

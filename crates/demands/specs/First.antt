@@ -9,6 +9,7 @@ use Rattle.rules.specs.Block.{blockAt, preset, extension}
 use Rattle.rules.specs.Call.{call}
 use Rattle.rules.specs.Census.{Survey, survey, census}
 use Rattle.rules.specs.Text.{Told, errorText}
+use Rattle.rules.specs.Host.{hostCensus}
 use Rattle.laws.specs.Effects.{Refused, lengths-kept, call-lawful, call-wrong, preset-quiet, extension-quiet}
 use Rattle.laws.specs.Surveys.{Surveyed, census-is}
 use Rattle.demands.specs.Service.{flex, leaves, Reply}
@@ -48,6 +49,7 @@ pub record Unique : Type 0 where
   pub preset : (tab : List ℕ) (n i v : ℕ) (o o′ : Reply) → o ≡ flex .preset tab n i v → o′ ≡ flex .preset tab n i v → o ≡ o′
   pub extension : (tab : List ℕ) (n c : ℕ) (o o′ : Reply) → o ≡ flex .extension tab n c → o′ ≡ flex .extension tab n c → o ≡ o′
   pub census : (img xs ys : List ℕ) (o o′ : Survey) → o ≡ flex .census img xs ys → o′ ≡ flex .census img xs ys → o ≡ o′
+  pub host : (img xs ys : List ℕ) (o o′ : Survey) → o ≡ hostCensus img xs ys → o′ ≡ hostCensus img xs ys → o ≡ o′
   pub text : (t : List ℕ) (e : ℕ) (o o′ : Told) → o ≡ errorText t e → o′ ≡ errorText t e → o ≡ o′
 
 pub unique : Unique
@@ -56,5 +58,6 @@ unique = record {
   preset = λ tab n i v o o′ p q. p ∙ sym q;
   extension = λ tab n c o o′ p q. p ∙ sym q;
   census = λ img xs ys o o′ p q. p ∙ sym q;
+  host = λ img xs ys o o′ p q. p ∙ sym q;
   text = λ t e o o′ p q. p ∙ sym q;
 }
