@@ -6,7 +6,7 @@ use mathlib.Core.List.{List, [], _∷_, _++_, append-assoc, append-nil}
 use Prim.Native.Nat.{ℕ, zero, suc, _+_, _-_, _*_, _/_, _%_, _≤_, _<_}
 use native.Mathlib.Omega.{arith}
 use native.Mathlib.Decide.{ℕ-discrete, decLt}
-use lib.ListN.{length, getD, set, replicate}
+use lib.ListN.{length, getD, set}
 use lib.Seq.{getD-set-same, getD-set-other}
 use lib.Dec.{eqb}
 use borrow.Author.Tests.{eq-eqb, ne-eqb, eqb-true, lt-ltb}
@@ -37,17 +37,17 @@ use Rattle.demands.specs.Got.{at-start, reads}
 
 -- ---- zeros to the end of the sector
 
-pad-is : (n : ℕ) (l : List ℕ) → length l ≤ n → padTo n l ≡ l ++ zeros (n - length l)
+pad-none : (n : ℕ) → padTo n [] ≡ zeros n
 unfolding padTo zeros
-pad-is zero [] h = refl
+pad-none zero = refl
+pad-none (suc n) = ap (λ (y : List ℕ). 0 ∷ y) (pad-none n)
+
+pad-is : (n : ℕ) (l : List ℕ) → length l ≤ n → padTo n l ≡ l ++ zeros (n - length l)
+unfolding padTo
+pad-is zero [] h = pad-none zero
 pad-is zero (x ∷ l) h = absurd (omega arith)
-pad-is (suc n) [] h =
-    let e : n - 0 ≡ n = omega arith in
-    let g : suc n ≡ suc n - 0 = omega arith in
-    ap (λ (y : List ℕ). 0 ∷ y) (pad-is n [] (omega arith) ∙ ap (λ (k : ℕ). replicate {A = ℕ} k 0) e) ∙ ap (λ (k : ℕ). replicate {A = ℕ} k 0) g
-pad-is (suc n) (x ∷ l) h =
-    let e : n - length l ≡ suc n - suc (length l) = omega arith in
-    ap (λ (y : List ℕ). x ∷ y) (pad-is n l (omega arith) ∙ ap (λ (k : ℕ). l ++ replicate {A = ℕ} k 0) e)
+pad-is (suc n) [] h = pad-none (suc n) ∙ ap zeros (omega arith)
+pad-is (suc n) (x ∷ l) h = ap (λ (y : List ℕ). x ∷ y) (pad-is n l (omega arith)) ∙ ap (λ (k : ℕ). x ∷ (l ++ zeros k)) (omega arith)
 
 zeros-none : zeros 0 ≡ []
 unfolding zeros
