@@ -139,9 +139,9 @@ pub record Offset (i : ℕ) : Type 0 where
   pub high : i < 64
   pub not-place : (47 ≤ i → i < 50 → ⊥)
 
-pub presettable-is : (i : ℕ) → presettable i ≡ true → Offset i
+pub offset-is : (i : ℕ) → presettable i ≡ true → Offset i
 unfolding presettable
-presettable-is i h = go (within 3 14 i) refl (within 25 27 i) refl (within 30 31 i) refl h
+offset-is i h = go (within 3 14 i) refl (within 25 27 i) refl (within 30 31 i) refl h
   where
     span : (lo hi : ℕ) → within lo hi i ≡ true → (lo ≤ i) × (i ≤ hi)
     span lo hi e = within-is lo hi i e
@@ -170,7 +170,7 @@ module _ (M S : ℕ) (z : Shape M S) (ds : List ℕ) (d : Listing S ds) (img tab
       (λ h0. pick-cases Still (presettable i) _ _
       (λ hp. pick-cases Still (idle (activityIn tab (320 * n))) _ _
       (λ hi.
-      let p = presettable-is i hp in
+      let p = offset-is i hp in
       let k = idle-act (tb tab n 2) hi in
       idle-quiet M S z ds d img tab a r n hn (puts tab (320 * n) (put i (v ∷ []) ∷ [])) (turned tab n (put i (v ∷ []) ∷ []) (omega (arith, p .high)))
       (idle-opens M S z ds d img tab a r n hn (k .0) (k .1)) (puts-clear (put i (v ∷ []) ∷ []) tab (320 * n) 2 (omega (arith, p .low)))

@@ -314,7 +314,7 @@ module _ (a : Ledger) (t : Tidy (a .slots)) where
       let p = seek-found (λ x. Rattle.rules.specs.Directory.named x (q .name) 0) (a .slots) s y in
       let hit = named-hit (nameOf (a .slots) s) (q .name) (p .hit) in
       tidy-set (a .slots) t s (withName (file a s) (q .rename)) (p .low) lr (live-used (q .rename) l)
-      (λ u i b. go i (p .low) b (hit .live) (neverUsed (nameOf (a .slots) i) 0) refl)
+      (λ u i b. go i (p .low) b (hit .alive) (neverUsed (nameOf (a .slots) i) 0) refl)
       (λ u j ne b k. found-none (q .rename) (a .slots) t v j b k)
     where
       go : (i : ℕ) → s < length (a .slots) → i < s → live (nameOf (a .slots) s) 0 ≡ true → (u : Bool) → neverUsed (nameOf (a .slots) i) 0 ≡ u → u ≡ false
@@ -331,8 +331,8 @@ module _ (M S : ℕ) (ds img tab : List ℕ) (a : Ledger) (r : Agrees M S ds img
       go : (b : Block) → Keeps S (slotsOf ds) tab m (a .slots) b → opens b ≡ suc s → (live (nameOf (a .slots) s) 0 ≡ true) × (s < length (a .slots))
       go closed k e = absurd (omega arith)
       go (listing p) k e = absurd (omega arith)
-      go (reading t j i) k e = let q : t ≡ s = omega arith in (subst (λ (x : ℕ). live (nameOf (a .slots) x) 0 ≡ true) q (k .live), omega (arith, q, k .slot, r .ns))
-      go (writing t ub) k e = let q : t ≡ s = omega arith in (subst (λ (x : ℕ). live (nameOf (a .slots) x) 0 ≡ true) q (k .live), omega (arith, q, k .slot, r .ns))
+      go (reading t j i) k e = let q : t ≡ s = omega arith in (subst (λ (x : ℕ). live (nameOf (a .slots) x) 0 ≡ true) q (k .alive), omega (arith, q, k .slot, r .ns))
+      go (writing t ub) k e = let q : t ≡ s = omega arith in (subst (λ (x : ℕ). live (nameOf (a .slots) x) 0 ≡ true) q (k .alive), omega (arith, q, k .slot, r .ns))
 
   pub own-live : (n : ℕ) → n < 8 → (s : ℕ) (ub : List ℕ) → block a n ≡ writing s ub → (s < length (a .slots)) × (live (nameOf (a .slots) s) 0 ≡ true)
   own-live n hn s ub e = let p = open-live n s hn (ap opens e) in (p .1, p .0)

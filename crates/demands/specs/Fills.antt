@@ -36,7 +36,7 @@ one-is v = refl
 
 module _ (M S : ℕ) (z : Shape M S) (ds : List ℕ) (d : Listing S ds) (img tab : List ℕ) (a : Ledger) (r : Agrees M S ds img tab a) where
   -- ---- the last sector of a live slot gets the bytes v
-  module _ (s : ℕ) (hs : s < length (slotsOf ds)) (live : Rattle.rules.specs.Directory.live ((getD (a .slots) s noFile) .name) 0 ≡ true)
+  module _ (s : ℕ) (hs : s < length (slotsOf ds)) (live : live ((getD (a .slots) s noFile) .name) 0 ≡ true)
       (some : 1 ≤ length ((getD (a .slots) s noFile) .secs)) (v : List ℕ) (lv : length v ≡ 252) where
     abbrev f : File
     f = getD (a .slots) s noFile
@@ -152,7 +152,7 @@ module _ (M S : ℕ) (z : Shape M S) (ds : List ℕ) (d : Listing S ds) (img tab
             act = same 2 (omega arith) (omega arith) ∙ w .act;
             drive = same 3 (omega arith) (omega arith) ∙ w .drive;
             slot = w .slot;
-            live = w .live;
+            alive = w .alive;
             place = tp-same tab tab′ n (λ i h. same i (omega arith) (omega arith)) ∙ w .place;
             start = s2 17 (omega arith) ∙ w .start;
             size = s2 21 (omega arith) ∙ w .size;
@@ -182,7 +182,7 @@ module _ (M S : ℕ) (z : Shape M S) (ds : List ℕ) (d : Listing S ds) (img tab
         act = fsame b 2 (omega arith) (omega arith) ∙ w .act;
         drive = fsame b 3 (omega arith) (omega arith) ∙ w .drive;
         slot = w .slot;
-        live = ap (λ (x : List ℕ). live x 0) en ∙ w .live;
+        alive = ap (λ (x : List ℕ). live x 0) en ∙ w .alive;
         place = tp-same tab (puts tab (320 * n) (fs b)) n (λ i h. fsame b i (omega arith) (omega arith)) ∙ w .place;
         start = t2-same tab (puts tab (320 * n) (fs b)) n 17 (fsame b 17 (omega arith) (omega arith)) (fsame b 18 (omega arith) (omega arith)) ∙ w .start ∙ ap (λ (x : List ℕ). adr S (first x 0)) (sym es);
         size = t2-same tab (puts tab (320 * n) (fs b)) n 21 (fsame b 21 (omega arith) (omega arith)) (fsame b 22 (omega arith) (omega arith)) ∙ w .size ∙ ap length (sym es);
@@ -200,7 +200,7 @@ module _ (M S : ℕ) (z : Shape M S) (ds : List ℕ) (d : Listing S ds) (img tab
       full-step b lb =
           let so : 1 ≤ length (g .secs) = w .some (omega arith) in
           let v = padTo 251 ub ++ b ∷ [] in
-          fill-step s (w .slot) (w .live) so v (omega (arith, length-snoc (padTo 251 ub) b, length-pad 251 ub)) n (puts tab (320 * n) (fs b)) (writing s []) ub hn (turned tab n (fs b) (omega arith)) e
+          fill-step s (w .slot) (w .alive) so v (omega (arith, length-snoc (padTo 251 ub) b, length-pad 251 ub)) n (puts tab (320 * n) (fs b)) (writing s []) ub hn (turned tab n (fs b) (omega arith)) e
           (subst (λ (f′ : File). Writing S (slotsOf ds) (puts tab (320 * n) (fs b)) n f′ s []) (sym (getD-set-same (a .slots) s (withLast g v) noFile (omega (arith, r .ns, w .slot))))
           (full-now b (withLast g v) refl refl so))
           (alone1 M S z ds d img tab a r n hn (writing s []) (ap opens (sym e)) (ap writes (sym e)))
@@ -240,7 +240,7 @@ module _ (M S : ℕ) (z : Shape M S) (ds : List ℕ) (d : Listing S ds) (img tab
         let ld = last-data M S z (g s ub e .secs) sd so in
         rw (w .pos, sector-data M S z (lastOf (g s ub e .secs) 0) ld, sector-index M S z (lastOf (g s ub e .secs) 0) ld, buffer-is s ub e 252 (omega arith) (omega arith)) (
           refl,
-          fill-step s (w .slot) (w .live) so (padTo 252 ub) (length-pad 252 ub) n (puts tab (320 * n) shutPs) closed ub hn shut-turn e shut-now
+          fill-step s (w .slot) (w .alive) so (padTo 252 ub) (length-pad 252 ub) n (puts tab (320 * n) shutPs) closed ub hn shut-turn e shut-now
               (λ n′ h e w. absurd (omega arith)) (λ n′ h e w. absurd (omega arith)),
         )))
       where

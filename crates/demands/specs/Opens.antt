@@ -116,7 +116,7 @@ module _ (M S : ℕ) (z : Shape M S) (ds : List ℕ) (d : Listing S ds) (img tab
           act = open-act M S z ds d img tab a r n hn 1 o es le;
           drive = open-drive M S z ds d img tab a r n hn 1 o es le ∙ dr;
           slot = hs;
-          live = alive;
+          alive = alive;
           place = open-place M S z ds d img tab a r n hn 1 o es le;
           start = open-word M S z ds d img tab a r n hn 1 o es le 17 (adr S (getD (f .secs) 0 0)) (omega arith) (omega arith)
               (word-part img o 24 13 (omega arith) ∙ (r .holds s hs .chain alive) .start ∙ ap (adr S) (first-getD (f .secs)));
@@ -143,7 +143,7 @@ module _ (M S : ℕ) (z : Shape M S) (ds : List ℕ) (d : Listing S ds) (img tab
           let q = seek-found (λ x. named x (part tab (320 * n + 4) 11) 0) (a .slots) s e in
           let hs : s < length (slotsOf ds) = omega (arith, q .low, r .ns) in
           meets-when M S ds img tab n (inUse false tab (placeOf (getD (slotsOf ds) s 0))) (busy false s (a .blocks) 8) 2 _ _ (in-use-is M S z ds d img tab a r false s hs) (omega arith)
-          (λ h. (refl, open-read s hs (named-hit ((getD (a .slots) s noFile) .name) (part tab (320 * n + 4) 11) (q .hit) .live) h))
+          (λ h. (refl, open-read s hs (named-hit ((getD (a .slots) s noFile) .name) (part tab (320 * n + 4) 11) (q .hit) .alive) h))
 
   -- ---- write
   abbrev nm : List ℕ
@@ -225,7 +225,7 @@ module _ (M S : ℕ) (z : Shape M S) (ds : List ℕ) (d : Listing S ds) (img tab
           act = open-act M S z ds d img tab a r n hn 2 p ne l24;
           drive = open-drive M S z ds d img tab a r n hn 2 p ne l24 ∙ dr;
           slot = hs;
-          live = alive;
+          alive = alive;
           place = open-place M S z ds d img tab a r n hn 2 p ne l24;
           start = open-word M S z ds d img tab a r n hn 2 p ne l24 17 (adr S 0) (omega arith) (omega arith) (zero-word 2 (omega arith) ∙ sym (adr-zero S));
           size = open-word M S z ds d img tab a r n hn 2 p ne l24 21 0 (omega arith) (omega arith) (zero-word 6 (omega arith));

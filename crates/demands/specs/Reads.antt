@@ -65,7 +65,7 @@ module _ (M S : ℕ) (z : Shape M S) (ds : List ℕ) (d : Listing S ds) (img tab
       act = same 2 (omega arith) ∙ w .act;
       drive = same 3 (omega arith) ∙ w .drive;
       slot = w .slot;
-      live = w .live;
+      alive = w .alive;
       place = tp-same tab (puts tab (320 * n) gave) n (λ k h. same k (omega arith)) ∙ w .place;
       start = s2 17 (omega arith) (omega arith) ∙ w .start;
       loaded = w .loaded;
@@ -155,14 +155,14 @@ module _ (M S : ℕ) (z : Shape M S) (ds : List ℕ) (d : Listing S ds) (img tab
       act = lsame 2 (omega arith) ∙ w .act;
       drive = lsame 3 (omega arith) ∙ w .drive;
       slot = w .slot;
-      live = w .live;
+      alive = w .alive;
       place = tp-same tab tab′ n (λ k h. lsame′ k (omega arith)) ∙ w .place;
       start = t2-same tab tab′ n 17 (lsame 17 (omega arith)) (lsame 18 (omega arith)) ∙ w .start;
       loaded = omega (arith, jl);
       before = λ q. absurd (omega arith);
       after = λ q t. omega (arith, pos, adr-pos M S z k k-pos k-high);
       link = λ q. word-same img tab′ (256 * k) (320 * n + 64) (buf 0 (omega arith) ∙ ap (λ (p : ℕ). getD img p 0) (omega arith)) (ap (λ (p : ℕ). getD tab′ p 0) (omega arith) ∙ buf 1 (omega arith))
-          ∙ seg-at S img l j jl ((h .chain (w .live)) .seg);
+          ∙ seg-at S img l j jl ((h .chain (w .alive)) .seg);
       at = puts-at ps tab (320 * n) 3 0 34 (omega arith) (omega arith) (omega arith) (in-table 34 (omega arith)) tt;
       within = λ q. omega arith;
       buffer = λ q c b. ap (λ (p : ℕ). getD tab′ p 0) (omega arith) ∙ buf (4 + c) (omega arith) ∙ data252 c b
@@ -221,7 +221,7 @@ module _ (M S : ℕ) (z : Shape M S) (ds : List ℕ) (d : Listing S ds) (img tab
     act = rsame 2 (omega arith) (omega arith) (omega arith) (omega arith) ∙ w .act;
     drive = rsame 3 (omega arith) (omega arith) (omega arith) (omega arith) ∙ w .drive;
     slot = w .slot;
-    live = w .live;
+    alive = w .alive;
     place = tp-same tab (puts tab (320 * n) rs) n (λ k h. rsame k (omega arith) (omega arith) (omega arith) (omega arith)) ∙ w .place;
     start = t2-same tab (puts tab (320 * n) rs) n 17 (rsame 17 (omega arith) (omega arith) (omega arith) (omega arith)) (rsame 18 (omega arith) (omega arith) (omega arith) (omega arith)) ∙ w .start;
     loaded = omega arith;

@@ -63,7 +63,7 @@ pub record Reading (S : ℕ) (os tab : List ℕ) (n : ℕ) (f : File) (s j i : �
   pub act : tb tab n 2 ≡ 1
   pub drive : tb tab n 3 ≡ 0
   pub slot : s < length os
-  pub live : Rattle.rules.specs.Directory.live (f .name) 0 ≡ true
+  pub alive : live (f .name) 0 ≡ true
   pub place : tp tab n ≡ placeOf (getD os s 0)
   pub start : t2 tab n 17 ≡ adr S (getD (f .secs) 0 0)
   pub loaded : j ≤ length (f .secs)
@@ -78,7 +78,7 @@ pub record Writing (S : ℕ) (os tab : List ℕ) (n : ℕ) (f : File) (s : ℕ) 
   pub act : tb tab n 2 ≡ 2
   pub drive : tb tab n 3 ≡ 0
   pub slot : s < length os
-  pub live : Rattle.rules.specs.Directory.live (f .name) 0 ≡ true
+  pub alive : live (f .name) 0 ≡ true
   pub place : tp tab n ≡ placeOf (getD os s 0)
   pub start : t2 tab n 17 ≡ adr S (first (f .secs) 0)
   pub size : t2 tab n 21 ≡ length (f .secs)
@@ -146,7 +146,7 @@ keeps-same S os tab tab′ n fs fs′ (reading s j i) r e k =
       act = r 2 (omega arith) ∙ k .act;
       drive = r 3 (omega arith) ∙ k .drive;
       slot = k .slot;
-      live = k .live;
+      alive = k .alive;
       place = rest-place tab tab′ n r ∙ k .place;
       start = rest2 tab tab′ n 17 (omega arith) r ∙ k .start;
       loaded = k .loaded;
@@ -163,7 +163,7 @@ keeps-same S os tab tab′ n fs fs′ (writing s ub) r e k =
       act = r 2 (omega arith) ∙ k .act;
       drive = r 3 (omega arith) ∙ k .drive;
       slot = k .slot;
-      live = k .live;
+      alive = k .alive;
       place = rest-place tab tab′ n r ∙ k .place;
       start = rest2 tab tab′ n 17 (omega arith) r ∙ k .start;
       size = rest2 tab tab′ n 21 (omega arith) r ∙ k .size;

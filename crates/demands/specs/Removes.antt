@@ -298,7 +298,7 @@ module _ (M S : ℕ) (z : Shape M S) (ds : List ℕ) (d : Listing S ds) (img tab
       go (slot s) e =
           let q = seek-found (λ x. named x nm 0) (a .slots) s e in
           let hs : s < length (slotsOf ds) = omega (arith, q .low, r .ns) in
-          let alive = named-hit ((getD (a .slots) s noFile) .name) nm (q .hit) .live in
+          let alive = named-hit ((getD (a .slots) s noFile) .name) nm (q .hit) .alive in
           let at = attributes-is s hs in
           meets-when M S ds img tab n (inUse true tab (placeOf (getD (slotsOf ds) s 0))) (busy true s (a .blocks) 8) 2 _ _ (in-use-is M S z ds d img tab a r true s hs) (omega arith)
           (λ h2. meets-when M S ds img tab n _ (deleteProtected (attributes a s)) 12 _ _ (ap deleteProtected at) (omega arith)
@@ -324,7 +324,7 @@ module _ (M S : ℕ) (z : Shape M S) (ds : List ℕ) (d : Listing S ds) (img tab
       go v (slot s) e y =
           let q = seek-found (λ x. named x nm 0) (a .slots) s e in
           let hs : s < length (slotsOf ds) = omega (arith, q .low, r .ns) in
-          let alive = named-hit ((getD (a .slots) s noFile) .name) nm (q .hit) .live in
+          let alive = named-hit ((getD (a .slots) s noFile) .name) nm (q .hit) .alive in
           meets-when M S ds img tab n (inUse true tab (placeOf (getD (slotsOf ds) s 0))) (busy true s (a .blocks) 8) 2 _ _ (in-use-is M S z ds d img tab a r true s hs) (omega arith)
           (λ h2. meets-when M S ds img tab n _ (writeProtected (attributes a s)) 11 _ _ (ap writeProtected (attributes-is s hs)) (omega arith)
           (λ h11. last s hs alive h2 v y))

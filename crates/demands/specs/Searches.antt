@@ -68,7 +68,7 @@ marked-dead (x ∷ nm) h = refl
 
 -- a hit of the name search is a live slot with the name
 pub record Named (x nm : List ℕ) : Type 0 where
-  pub live : Rattle.rules.specs.Directory.live x 0 ≡ true
+  pub alive : live x 0 ≡ true
   pub same : part x 0 11 ≡ nm
 
 hit-pass : Hit ≡ Pass → ⊥
@@ -85,7 +85,7 @@ named-hit x nm h = go (searchStops x 0) (live x 0) refl (same (part x 0 11) nm) 
     go true v e w f h = absurd (hit-stop (sym h))
     go false false e w f h = absurd (hit-pass (sym h))
     go false true e false f h = absurd (hit-pass (sym h))
-    go false true e true f h = record { live = e; same = same-eq (part x 0 11) nm f }
+    go false true e true f h = record { alive = e; same = same-eq (part x 0 11) nm f }
 
 pub vacant-hit : (x : List ℕ) → vacant x 0 ≡ Hit → live x 0 ≡ false
 unfolding vacant
@@ -190,8 +190,8 @@ module _ (M S : ℕ) (z : Shape M S) (ds : List ℕ) (d : Listing S ds) (img tab
       go : (b : Block) → Keeps S (slotsOf ds) tab n (a .slots) b → opens b ≢ suc s
       go closed k q = omega arith
       go (listing p) k q = omega arith
-      go (reading t j i) k q = absurd-bool (k .live) (ap (λ (x : ℕ). live ((getD (a .slots) x noFile) .name) 0) (omega (arith, q)) ∙ u)
-      go (writing t ub) k q = absurd-bool (k .live) (ap (λ (x : ℕ). live ((getD (a .slots) x noFile) .name) 0) (omega (arith, q)) ∙ u)
+      go (reading t j i) k q = absurd-bool (k .alive) (ap (λ (x : ℕ). live ((getD (a .slots) x noFile) .name) 0) (omega (arith, q)) ∙ u)
+      go (writing t ub) k q = absurd-bool (k .alive) (ap (λ (x : ℕ). live ((getD (a .slots) x noFile) .name) 0) (omega (arith, q)) ∙ u)
 
 -- ---- what busy says of a block
 

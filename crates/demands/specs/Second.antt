@@ -24,7 +24,7 @@ use Rattle.demands.specs.Relation.{opens, writes, Writing, Keeps}
 use Rattle.demands.specs.Quiet.{activity-is, nobody, writes-opens}
 use Rattle.demands.specs.Meets.{request, Sure}
 use Rattle.demands.specs.Searches.{seek-found}
-use Rattle.demands.specs.Calls.{presettable-is}
+use Rattle.demands.specs.Calls.{offset-is}
 use Rattle.demands.specs.Changes.{Changes, changes, rename-legal}
 use Rattle.demands.specs.Survey.{ledgerOf}
 use Rattle.demands.specs.Service.{flex, replied, Call, setting, extending, asking, Machine, Entry, answers, gave, next, entry, run, log}
@@ -181,7 +181,7 @@ module _ (M S : ℕ) (z : Shape M S) (ds : List ℕ) (d : Listing S ds) where
     shut-fate = go (ℕ-discrete (length (w .left)) 0)
       where
         alive : live ((file a s) .name) 0 ≡ true
-        alive = wr .live
+        alive = wr .alive
 
         low : s < length (a .slots)
         low = omega (arith, g .agrees .ns, wr .slot)
@@ -307,7 +307,7 @@ module _ (M S : ℕ) (z : Shape M S) (ds : List ℕ) (d : Listing S ds) where
         size-is : (y : Machine) (h : Ledger) → Fine M S ds y h → (sent : List ℕ) → Wrote h n s (nameIn x n) sent → sizeAt (y .img) o ≡ (length sent + 251) / 252
         size-is y h g2 sent w =
             let wr : Writing S (slotsOf ds) (y .tab) n (file h s) s (w .left) = subst (λ (v : Block). Keeps S (slotsOf ds) (y .tab) n (h .slots) v) (w .block) (g2 .agrees .keeps n (k .block)) in
-            let c = g2 .agrees .holds s (wr .slot) .chain (wr .live) in
+            let c = g2 .agrees .holds s (wr .slot) .chain (wr .alive) in
             let e : wordAt (y .img) (o + 17) ≡ length ((file h s) .secs) = ap (wordAt (y .img)) (omega arith) ∙ c .size in
             e ∙ sym (count wr (ℕ-discrete (length (w .left)) 0))
           where
@@ -333,7 +333,7 @@ module _ (x : Machine) (st : Start x) (cs : List Call) where
   preset-done : (n i v : ℕ) → n < 8 → presettable i ≡ true → Idle a0 n → flex .preset (x0 .tab) n i v ≡ replied 0 (over (x0 .tab) (320 * n + i) (one v))
   unfolding Rattle.rules.specs.Block.preset presetIn
   preset-done n i v hn p h =
-      let q = presettable-is i p in
+      let q = offset-is i p in
       let act : idle (getD (x0 .tab) (320 * n + 2) 0) ≡ true = ap idle (activity-is (perOf x) (slotsOf ds) (x0 .tab) n (a0 .slots) (block a0 n) (fine .agrees .keeps n hn)) ∙ h in
       rw (eq-eqb (length (x0 .tab)) 2560 (fine .agrees .tlen), lt-ltb n 8 hn, ne-eqb i 0 (omega (arith, q .low)), p, act) refl
 

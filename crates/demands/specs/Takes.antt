@@ -61,7 +61,7 @@ module _ (M S : ℕ) (z : Shape M S) (ds : List ℕ) (d : Listing S ds) (img tab
   h = r .holds s hs
 
   c : Chain S img (o + 13) l
-  c = h .chain (wr .live)
+  c = h .chain (wr .alive)
 
   fc : Chain S img 541 (k ∷ fr)
   fc = subst (λ (x : List ℕ). Chain S img 541 x) ef (r .free)
@@ -217,7 +217,7 @@ module _ (M S : ℕ) (z : Shape M S) (ds : List ℕ) (d : Listing S ds) (img tab
           seg = seg-hang S img img′ l (k ∷ []) (λ x. omega (arith, tk x)) (λ j i t ne b. sector j i (secs-data M S z ds d img tab a r s hs j t .0) (in-l j t) (omega arith) (λ o q. absurd (ne q))) link-is (c .seg)
               (word-put img′ (256 * k) 0 (omega arith) (ap (λ (p : ℕ). getD img′ p 0) (omega arith) ∙ new 0 (omega arith) ∙ fresh-link (length l + 1) 0 (omega arith)) (new 1 (omega arith) ∙ fresh-link (length l + 1) 1 (omega arith)) ∙ sym (adr-zero S), tt);
         };
-        dead = λ v. absurd-bool (wr .live) v;
+        dead = λ v. absurd-bool (wr .alive) v;
         body = sym (contents-append img′ l (k ∷ [])
             ∙ ap₂ (λ (x y : List (List ℕ)). x ++ y)
             (contents-same img img′ l
@@ -266,7 +266,7 @@ module _ (M S : ℕ) (z : Shape M S) (ds : List ℕ) (d : Listing S ds) (img tab
           act = same 2 (omega arith) ∙ wr .act;
           drive = same 3 (omega arith) ∙ wr .drive;
           slot = hs;
-          live = wr .live;
+          alive = wr .alive;
           place = tp-same tab tab′ n (λ i h. same′ i (omega arith)) ∙ wr .place;
           start = t2-at 17 (adr S (first l′ 0)) (first-small M S z l′ l′-data) (at 0 0 17 (omega arith) (omega arith) (omega arith) (omega arith) (omega arith)) (at 0 1 18 (omega arith) (omega arith) (omega arith) (omega arith) (omega arith));
           size = t2-at 21 (length l + 1) (omega (arith, lfew)) (at 0 4 21 (omega arith) (omega arith) (omega arith) (omega arith) (omega arith)) (at 0 5 22 (omega arith) (omega arith) (omega arith) (omega arith) (omega arith)) ∙ sym (length-snoc l k);

@@ -207,7 +207,7 @@ found-there fs t s hs l = go (fileNamed (nameOf fs s) fs) refl
         same-slot (yes d) = d
         same-slot (no d) =
             let m = named-hit (nameOf fs i) (nameOf fs s) (q .hit) in
-            absurd (t .apart i s d (q .low) hs (m .live) l (sym (part-all (nameOf fs i) 11 (t .long i (q .low))) ∙ m .same))
+            absurd (t .apart i s d (q .low) hs (m .alive) l (sym (part-all (nameOf fs i) 11 (t .long i (q .low))) ∙ m .same))
 
 vacant-pick : (x : List ℕ) → vacant x 0 ≡ pick (live x 0) Pass Hit
 unfolding vacant
