@@ -9,10 +9,11 @@ use lib.ListN.{length}
 use Rattle.rules.specs.Image.{index, isData, shapeRight, lastTrack, perTrack}
 use Rattle.rules.specs.Directory.{isDirectory}
 use Rattle.laws.specs.Addresses.{Shape, sectors-many, shape-true, data-is, data-sector, data-low, data-high, data-true, directory-is, directory-true, index-directory, addressOf, address-index, address-lies, address-small, index-address}
+use Rattle.laws.specs.Tests.{clash}
 
 -- a test that holds and does not
 pub absurd-bool : {A : Type 0} {b : Bool} → b ≡ true → b ≡ false → A
-absurd-bool p q = let e : true ≡ false = sym p ∙ q in Rattle.laws.specs.Tests.clash (cc)
+absurd-bool p q = let e : true ≡ false = sym p ∙ q in clash (cc)
 
 -- ---- addresses
 

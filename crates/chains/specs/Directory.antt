@@ -20,7 +20,7 @@ use Rattle.chains.specs.Tally.{tally, tally-head, eq1, eq1-same, eq1-ne}
 use Rattle.laws.specs.Tests.{within-true}
 use Rattle.laws.specs.Addresses.{Shape}
 use Rattle.chains.specs.Addresses.{absurd-bool, adr, adr-zero, adr-pos, index-adr, directory-adr, directory-index}
-use Rattle.chains.specs.Chain.{first, Seg, seg-at, tally-getD}
+use Rattle.chains.specs.Chain.{first, Seg, seg-at, tally-getD, in-one}
 
 -- ---- one place, one chain: what is linked from a sector on to the end is told by the sector
 
@@ -153,7 +153,7 @@ module _ (M S : ℕ) (z : Shape M S) (img : List ℕ) where
         go (eqb (linkOf img k) 0) refl (isDirectory S (linkOf img k)) refl h (λ j c d e. walked n j c d e)
       where
         one : (x : ℕ) → 1 ≤ tally x (k ∷ []) → (4 ≤ x) × (x < S)
-        one x t = let e : x ≡ k = Rattle.chains.specs.Chain.in-one x k t in omega arith
+        one x t = let e : x ≡ k = in-one x k t in omega arith
 
         more : (l : List ℕ) → ((x : ℕ) → 1 ≤ tally x l → (4 ≤ x) × (x < S)) → (x : ℕ) → 1 ≤ tally x (k ∷ l) → Dec (x ≡ k) → (4 ≤ x) × (x < S)
         more l g x t (yes e) = omega arith

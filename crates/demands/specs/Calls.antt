@@ -14,7 +14,7 @@ use Rattle.rules.specs.Stores.{put, stored, puts}
 use Rattle.rules.specs.Directory.{slotsOf}
 use Rattle.rules.specs.Outcome.{Outcome, Effect, onImage, onBlock}
 use Rattle.rules.specs.Block.{idle, activityIn, presettable, presetIn, preset, extensions, extensionIn, extension}
-use Rattle.rules.specs.Transfer.{transfer}
+use Rattle.rules.specs.Transfer.{transfer, close}
 use Rattle.rules.specs.Call.{served, fits, misfit, checked, perform, asked, call}
 use Rattle.laws.specs.Tests.{pick-cases}
 use Rattle.laws.specs.Tests.{within-is}
@@ -32,6 +32,8 @@ use Rattle.demands.specs.Fills.{close-meets}
 use Rattle.demands.specs.Opens.{open-read-meets, open-write-meets}
 use Rattle.demands.specs.Removes.{delete-meets, rename-meets}
 use Rattle.demands.specs.Lists.{open-directory-meets, next-slot-meets, read-sector-meets}
+use Rattle.rules.specs.Files.{nextSlot}
+use Rattle.rules.specs.Files.{rewind}
 
 -- a function of other codes takes an idle block
 fits-idle : (code : ℕ) (o : Block) → code ≢ 0 → code ≢ 4 → code ≢ 5 → code ≢ 7 → fits code (activity o) ≡ true → opens o ≡ 0
@@ -59,21 +61,21 @@ module _ (M S : ℕ) (z : Shape M S) (ds : List ℕ) (d : Listing S ds) (img tab
       let k : Writing S (slotsOf ds) tab n (getD (a .slots) s noFile) s ub = subst (λ (x : Block). Keeps S (slotsOf ds) tab n (a .slots) x) e (r .keeps n hn) in
       rw (k .act) (write-meets M S z ds d img tab a r n hn q s ub e)
 
-  shut-meets : (o : Block) → getD (a .blocks) n closed ≡ o → fits 4 (activity o) ≡ true → Meets M S ds img tab n (Rattle.rules.specs.Transfer.close img tab M S (320 * n)) (shutBlock M S a n q o)
+  shut-meets : (o : Block) → getD (a .blocks) n closed ≡ o → fits 4 (activity o) ≡ true → Meets M S ds img tab n (close img tab M S (320 * n)) (shutBlock M S a n q o)
   unfolding fits within
   shut-meets closed e h = absurd-bool h refl
   shut-meets (listing p) e h = close-meets M S z ds d img tab a r n hn q (listing p) e (λ x. let y : _≡_ {A = ℕ} 0 1 = cc in omega arith)
   shut-meets (reading s j i) e h = close-meets M S z ds d img tab a r n hn q (reading s j i) e (λ x. let y : _≡_ {A = ℕ} 0 1 = cc in omega arith)
   shut-meets (writing s ub) e h = close-meets M S z ds d img tab a r n hn q (writing s ub) e (λ x. let y : _≡_ {A = ℕ} 0 1 = cc in omega arith)
 
-  back-meets : (o : Block) → getD (a .blocks) n closed ≡ o → fits 5 (activity o) ≡ true → Meets M S ds img tab n Rattle.rules.specs.Files.rewind (rewound M S a n q o)
+  back-meets : (o : Block) → getD (a .blocks) n closed ≡ o → fits 5 (activity o) ≡ true → Meets M S ds img tab n rewind (rewound M S a n q o)
   unfolding fits
   back-meets closed e h = absurd-bool h refl
   back-meets (listing p) e h = absurd-bool h refl
   back-meets (reading s j i) e h = rewind-meets M S z ds d img tab a r n hn s j i e q
   back-meets (writing s ub) e h = absurd-bool h refl
 
-  list-meets : (o : Block) → getD (a .blocks) n closed ≡ o → fits 7 (activity o) ≡ true → Meets M S ds img tab n (Rattle.rules.specs.Files.nextSlot img tab S (320 * n)) (shownNext M S a n q o)
+  list-meets : (o : Block) → getD (a .blocks) n closed ≡ o → fits 7 (activity o) ≡ true → Meets M S ds img tab n (nextSlot img tab S (320 * n)) (shownNext M S a n q o)
   unfolding fits
   list-meets closed e h = absurd-bool h refl
   list-meets (listing p) e h = next-slot-meets M S z ds d img tab a r n hn q p e

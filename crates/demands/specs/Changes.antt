@@ -308,10 +308,10 @@ module _ (a : Ledger) (t : Tidy (a .slots)) where
       tidy-set (a .slots) t s (newFile (q .name) (q .date)) (seek-found (λ x. vacant x 0) (a .slots) s w .low) ln (live-used (q .name) l)
       (λ v i b. live-used (nameOf (a .slots) i) (room-before (a .slots) s w i b))
       (λ v j ne b u. found-none (q .name) (a .slots) t y j b u)
-  tidy-change a′ n q ln lr ow (gone s x y by) = marked s (seek-found (λ x. Rattle.rules.specs.Directory.named x (q .name) 0) (a .slots) s y .low)
+  tidy-change a′ n q ln lr ow (gone s x y by) = marked s (seek-found (λ x. named x (q .name) 0) (a .slots) s y .low)
   tidy-change a′ n q ln lr ow (retitled s x y by w v) =
       let l = legal-live (q .rename) w in
-      let p = seek-found (λ x. Rattle.rules.specs.Directory.named x (q .name) 0) (a .slots) s y in
+      let p = seek-found (λ x. named x (q .name) 0) (a .slots) s y in
       let hit = named-hit (nameOf (a .slots) s) (q .name) (p .hit) in
       tidy-set (a .slots) t s (withName (file a s) (q .rename)) (p .low) lr (live-used (q .rename) l)
       (λ u i b. go i (p .low) b (hit .alive) (neverUsed (nameOf (a .slots) i) 0) refl)

@@ -11,7 +11,7 @@ use Rattle.rules.specs.Names.{legal}
 use Rattle.rules.specs.Directory.{live, slots, sizeAt, member}
 use Rattle.rules.specs.Outcome.{out}
 use Rattle.rules.specs.Block.{idle, presettable}
-use Rattle.rules.specs.Census.{Survey, survey, census}
+use Rattle.rules.specs.Census.{Survey, survey, census, tally}
 use Rattle.laws.specs.Small.{Small}
 use Rattle.laws.specs.Effects.{answerNumbers, presetNumbers, extensionNumbers}
 use Rattle.laws.specs.Surveys.{surveyNumbers}
@@ -150,7 +150,7 @@ pub record Sound (σ : Service) (x : Machine) (cs : List Call) : Type 0 where
   pub accepted : (xs ys : List ℕ) → length xs ≡ dataSectors (x .img) → length ys ≡ dataSectors (x .img)
       → σ .census (run σ x cs .img) xs ys ≡ survey 0 (ledgerNumbers (perOf x) (told σ x cs)) (ledgerOwners (told σ x cs))
   -- each data sector once
-  pub each-once : (k : ℕ) → k < dataSectors (x .img) → Rattle.rules.specs.Census.tally k (ledgerNumbers (perOf x) (told σ x cs)) ≡ 1
+  pub each-once : (k : ℕ) → k < dataSectors (x .img) → tally k (ledgerNumbers (perOf x) (told σ x cs)) ≡ 1
   pub no-more : length (ledgerNumbers (perOf x) (told σ x cs)) ≡ dataSectors (x .img)
   -- every file's bytes, an unfinished sector's from its control block, are what the history says
   pub files : filesOn (perOf x) (run σ x cs .img) (run σ x cs .tab) (slots (run σ x cs .img) (perOf x)) ≡ shown (told σ x cs)

@@ -7,19 +7,20 @@ use Rattle.rules.specs.Stores.{stored, puts}
 use Rattle.rules.specs.Outcome.{answer, Out}
 use Rattle.rules.specs.Block.{blockAt, preset, extension}
 use Rattle.rules.specs.Call.{call}
-use Rattle.rules.specs.Census.{Survey, survey, census}
+use Rattle.rules.specs.Census.{Survey, survey, census, owners, listed}
 use Rattle.rules.specs.Text.{Told, errorText}
 use Rattle.rules.specs.Host.{hostCensus}
 use Rattle.laws.specs.Effects.{Refused, lengths-kept, call-lawful, call-wrong, preset-quiet, extension-quiet}
 use Rattle.laws.specs.Surveys.{Surveyed, census-is}
 use Rattle.demands.specs.Service.{flex, leaves, Reply}
 use Rattle.demands.specs.Demands.{Demand1, dataSectors, surveyAnswer, surveyFirst, surveySecond}
+use Rattle.rules.specs.Image.{perTrack}
 
 refused : (img tab : List ℕ) (n b : ℕ) → answer (call img tab n b) ≢ 0 → Refused tab (blockAt n) (call img tab n b)
 refused img tab n b h = call-lawful img tab n b .refused h
 
 surveyed : (img xs ys : List ℕ)
-    → Surveyed img (dataSectors img) 65535 (Rattle.rules.specs.Census.listed img (Rattle.rules.specs.Image.perTrack img)) (Rattle.rules.specs.Census.owners img (Rattle.rules.specs.Image.perTrack img)) xs ys
+    → Surveyed img (dataSectors img) 65535 (listed img (perTrack img)) (owners img (perTrack img)) xs ys
     (surveyAnswer (census img xs ys)) (surveyFirst (census img xs ys)) (surveySecond (census img xs ys))
 surveyed img xs ys = census-is img xs ys (surveyAnswer (census img xs ys)) (surveyFirst (census img xs ys)) (surveySecond (census img xs ys)) (parts (census img xs ys))
   where

@@ -50,13 +50,13 @@ posOf j i = pick (eqb i 0) (252 * j) (252 * (j - 1) + (i - 4))
 pub record At (a : Ledger) (n s p : ℕ) (c : List ℕ) : Type 0 where
   pub j : ℕ
   pub i : ℕ
-  pub block : Rattle.demands.specs.Ledger.block a n ≡ reading s j i
+  pub reader : block a n ≡ reading s j i
   pub pos : p ≡ posOf j i
   pub bytes : concat ((file a s) .body) ≡ c
 
 pub at-start : (a : Ledger) (n s : ℕ) (c : List ℕ) → block a n ≡ reading s 0 0 → concat ((file a s) .body) ≡ c → At a n s 0 c
 unfolding posOf
-at-start a n s c e b = record { j = 0; i = 0; block = e; pos = refl; bytes = b }
+at-start a n s c e b = record { j = 0; i = 0; reader = e; pos = refl; bytes = b }
 
 -- the next byte, or the end
 data Fetched (a : Ledger) (n s p : ℕ) (c : List ℕ) : Fate → Type 0 where
@@ -66,7 +66,7 @@ data Fetched (a : Ledger) (n s p : ℕ) (c : List ℕ) : Fate → Type 0 where
 module _ (M S : ℕ) (z : Shape M S) (ds : List ℕ) (d : Listing S ds) where
   module _ (x : Machine) (a : Ledger) (g : Fine M S ds x a) (n s p : ℕ) (c : List ℕ) (hn : n < 8) (t : At a n s p c) (q : Request) where
     w : Reading S (slotsOf ds) (x .tab) n (file a s) s (t .j) (t .i)
-    w = subst (λ (b : Block). Keeps S (slotsOf ds) (x .tab) n (a .slots) b) (t .block) (g .agrees .keeps n hn)
+    w = subst (λ (b : Block). Keeps S (slotsOf ds) (x .tab) n (a .slots) b) (t .reader) (g .agrees .keeps n hn)
 
     bd : (file a s) .body ≡ contents (x .img) ((file a s) .secs)
     bd = g .agrees .holds s (w .slot) .body
@@ -92,7 +92,7 @@ module _ (M S : ℕ) (z : Shape M S) (ds : List ℕ) (d : Listing S ds) where
         next-sector pp (yes h) =
             rw (lt-ltb (t .j) (length ((file a s) .secs)) h)
             (byte (getD (getD ((file a s) .body) (t .j) []) 0 0) (onBlock a n (reading s (suc (t .j)) 5)) (omega (arith, len, pp, h)) (byte-at (t .j) 0 p h (omega arith) (omega (arith, pp)))
-            (record { j = suc (t .j); i = 5; block = set-b (reading s (suc (t .j)) 5); pos = omega (arith, pp); bytes = t .bytes }))
+            (record { j = suc (t .j); i = 5; reader = set-b (reading s (suc (t .j)) 5); pos = omega (arith, pp); bytes = t .bytes }))
         next-sector pp (no h) = rw (le-ltb (t .j) (length ((file a s) .secs)) (omega arith)) (over (omega (arith, len, pp, h)))
 
         turn-pos : Dec (t .i ≡ 255) → p ≡ 252 * (t .j - 1) + (t .i - 4) → (5 ≤ t .i) × (t .i < 256) × (1 ≤ t .j)
@@ -111,7 +111,7 @@ module _ (M S : ℕ) (z : Shape M S) (ds : List ℕ) (d : Listing S ds) where
             rw (ne-eqb (t .i) 0 e)
             (byte (getD (getD ((file a s) .body) (t .j - 1) []) (t .i - 4) 0) (onBlock a n (reading s (t .j) ((t .i + 1) % 256))) (omega (arith, len, pp, wi, ld))
             (byte-at (t .j - 1) (t .i - 4) p (omega (arith, wi, ld)) (omega (arith, wi)) (omega (arith, pp)))
-            (record { j = t .j; i = (t .i + 1) % 256; block = set-b (reading s (t .j) ((t .i + 1) % 256)); pos = turn-pos (ℕ-discrete (t .i) 255) pp wi; bytes = t .bytes }))
+            (record { j = t .j; i = (t .i + 1) % 256; reader = set-b (reading s (t .j) ((t .i + 1) % 256)); pos = turn-pos (ℕ-discrete (t .i) 255) pp wi; bytes = t .bytes }))
 
   -- ---- over the log
 
@@ -125,7 +125,7 @@ module _ (M S : ℕ) (z : Shape M S) (ds : List ℕ) (d : Listing S ds) where
           × (m ≡ n → (answers flex x m b ≡ pick (ltb p (length c)) 0 8) × (gave flex x m b ≡ getD c p 0))
 
       kept-by : (a′ : Ledger) → block a′ n ≡ block a n → file a′ s ≡ file a s → At a′ n s p c
-      kept-by a′ u k = record { j = t .j; i = t .i; block = u ∙ t .block; pos = t .pos; bytes = ap (λ (y : File). concat (y .body)) k ∙ t .bytes }
+      kept-by a′ u k = record { j = t .j; i = t .i; reader = u ∙ t .reader; pos = t .pos; bytes = ap (λ (y : File). concat (y .body)) k ∙ t .bytes }
 
       other : m ≢ n → Now
       other ne = (rw (ne-eqb m n ne) (go (decLt m 8) (ℕ-discrete (answers flex x m b) 0)), λ q. absurd (ne q))
@@ -138,18 +138,18 @@ module _ (M S : ℕ) (z : Shape M S) (ds : List ℕ) (d : Listing S ds) where
               by : (φ : Fate) → Changes a m (request (x .tab) m b) φ → At (after a φ) n s p c
               by (denied v) k = t
               by (granted v a′) k =
-                  let o = open-kept M S z ds d x a g m h (request (x .tab) m b) a′ k n s hn (λ y. ne (sym y)) (ap opens (t .block)) in
+                  let o = open-kept M S z ds d x a g m h (request (x .tab) m b) a′ k n s hn (λ y. ne (sym y)) (ap opens (t .reader)) in
                   kept-by a′ (o .0) (o .1)
 
       own-call : m ≡ n → (request (x .tab) m b) .code ≡ 0 → Now
       own-call q k =
           let hm : m < 8 = omega arith in
-          let bm : block a m ≡ reading s (t .j) (t .i) = ap (block a) q ∙ t .block in
+          let bm : block a m ≡ reading s (t .j) (t .i) = ap (block a) q ∙ t .reader in
           let rd : Reading S (slotsOf ds) (x .tab) m (file a s) s (t .j) (t .i) = subst (λ (y : Block). Keeps S (slotsOf ds) (x .tab) m (a .slots) y) bm (g .agrees .keeps m hm) in
           let φ : fate M S a m (request (x .tab) m b) ≡ transferred M S a m (request (x .tab) m b) (reading s (t .j) (t .i)) =
           fate-zero M S a m (request (x .tab) m b) (reading s (t .j) (t .i)) k (rd .drive) bm fits-one in
           let st = step M S z ds d x a g m b hm in
-          let tm : At a m s p c = record { j = t .j; i = t .i; block = bm; pos = t .pos; bytes = t .bytes } in
+          let tm : At a m s p c = record { j = t .j; i = t .i; reader = bm; pos = t .pos; bytes = t .bytes } in
           let y = subst (Fetched a m s p c) (sym φ) (fetched x a g m s p c hm tm (request (x .tab) m b)) in
           rw (eq-eqb m n q) (by (fate M S a m (request (x .tab) m b)) (st .ans) (st .byte) y q)
         where

@@ -13,7 +13,7 @@ use Rattle.laws.specs.Tests.{both, either, within-is}
 use Rattle.rules.specs.Bytes.{pick, within, wordAt, part, one, zeros}
 use Rattle.rules.specs.Stores.{store, stored, Put, put, puts}
 use Rattle.rules.specs.Names.{isLetter, isWord, legal}
-use Rattle.rules.specs.Directory.{slotsOf, live, neverUsed, named, vacant, placeOf}
+use Rattle.rules.specs.Directory.{slotsOf, live, neverUsed, named, vacant, placeOf, deleted}
 use Rattle.rules.specs.Outcome.{refuse, done, onSlot, onNone}
 use Rattle.rules.specs.Block.{inUse}
 use Rattle.rules.specs.Files.{opened, newEntry, openRead, openWrite}
@@ -40,7 +40,7 @@ letter-live x h = either (within 65 90 x) (within 97 122 x) h (λ e. now 65 90 (
     now lo hi a b e = let w = within-is lo hi x e in rw (ne-eqb x 0 (omega arith), lt-leb 128 x (omega arith)) refl
 
 pub legal-live : (m : List ℕ) → legal m 0 ≡ true → live m 0 ≡ true
-unfolding legal isWord part live neverUsed Rattle.rules.specs.Directory.deleted
+unfolding legal isWord part live neverUsed deleted
 legal-live m h = letter-live (getD m 0 0) (both (isLetter (getD m 0 0)) _ (both (isWord (part m 0 8)) _ h .0) .0)
 
 -- ---- the table of an open: the entry es of the slot at o goes to 4-27

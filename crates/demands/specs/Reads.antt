@@ -14,7 +14,7 @@ use Rattle.rules.specs.Stores.{Put, put, puts}
 use Rattle.rules.specs.Image.{index, isData}
 use Rattle.rules.specs.Directory.{slotsOf}
 use Rattle.rules.specs.Outcome.{refuse, done}
-use Rattle.rules.specs.Transfer.{nextToRead, loadPuts, load}
+use Rattle.rules.specs.Transfer.{nextToRead, loadPuts, load, reading as readByte}
 use Rattle.rules.specs.Files.{rewind}
 use Rattle.laws.specs.Bytes.{word-put, word-same, part-at, length-part, length-one}
 use Rattle.chains.specs.Tally.{tally}
@@ -197,8 +197,8 @@ module _ (M S : ℕ) (z : Shape M S) (ds : List ℕ) (d : Listing S ds) (img tab
           let p : adr S (getD l j 0) ≡ 0 = ap (adr S) (List·getD-eq-default l 0 (omega arith)) ∙ adr-zero S in
           rw (eq-eqb (adr S (getD l j 0)) 0 p, le-ltb j (length l) (omega arith)) (refl, omega arith)
 
-  pub read-meets : (q : Request) → Meets M S ds img tab n (Rattle.rules.specs.Transfer.reading img tab M S (320 * n)) (transferred M S a n q (reading s j i))
-  unfolding Rattle.rules.specs.Transfer.reading
+  pub read-meets : (q : Request) → Meets M S ds img tab n (readByte img tab M S (320 * n)) (transferred M S a n q (reading s j i))
+  unfolding readByte
   read-meets q =
       meets-pick M S ds img tab n (eqb (tb tab n 34) 0) (eqb i 0) _ _ _ _ (ap (λ (x : ℕ). eqb x 0) (w .at))
       (λ h. rw wanted load-meets)

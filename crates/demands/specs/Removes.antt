@@ -17,7 +17,7 @@ use Rattle.rules.specs.Directory.{slotsOf, live, named, placeOf}
 use Rattle.rules.specs.Outcome.{refuse, done, onSlot, onNone}
 use Rattle.rules.specs.Block.{inUse}
 use Rattle.rules.specs.Transfer.{mark}
-use Rattle.rules.specs.Files.{writeProtected, deleteProtected, hangStores, gone, remove, delete}
+use Rattle.rules.specs.Files.{writeProtected, deleteProtected, hangStores, gone, remove, delete, rename}
 use Rattle.laws.specs.Bytes.{word-put, part-at, part-is, part-same, length-part, length-one}
 use Rattle.chains.specs.Tally.{tally-append, apart}
 use Rattle.laws.specs.Addresses.{Shape}
@@ -305,8 +305,8 @@ module _ (M S : ℕ) (z : Shape M S) (ds : List ℕ) (d : Listing S ds) (img tab
           (λ h12. meets-when M S ds img tab n _ (writeProtected (attributes a s)) 11 _ _ (ap writeProtected at) (omega arith)
           (λ h11. remove-meets M S z ds d img tab a r s hs alive n hn oz h2)))
 
-  pub rename-meets : (b : ℕ) → Meets M S ds img tab n (Rattle.rules.specs.Files.rename img tab S (320 * n)) (renamed M S a n (request tab n b))
-  unfolding Rattle.rules.specs.Files.rename renamed
+  pub rename-meets : (b : ℕ) → Meets M S ds img tab n (rename img tab S (320 * n)) (renamed M S a n (request tab n b))
+  unfolding rename renamed
   rename-meets b =
       meets-unless M S ds img tab n (legal tab (320 * n + 4)) (legal nm 0) 21 _ _ (legal-part tab (320 * n + 4)) (omega arith)
       (λ h. meets-unless M S ds img tab n (legal tab (320 * n + 53)) (legal nn 0) 21 _ _ (legal-part tab (320 * n + 53)) (omega arith)

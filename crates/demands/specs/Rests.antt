@@ -10,7 +10,7 @@ use lib.ListN.{length}
 use lib.Dec.{eqb}
 use borrow.Author.Tests.{eq-eqb, ne-eqb, eqb-true, le-ltb}
 use Rattle.rules.specs.Bytes.{pick, same}
-use Rattle.rules.specs.Directory.{live}
+use Rattle.rules.specs.Directory.{live, named}
 use Rattle.laws.specs.Bytes.{same-refl, same-eq, part-all}
 use Rattle.laws.specs.Tests.{both}
 use Rattle.laws.specs.Addresses.{Shape}
@@ -51,7 +51,7 @@ module _ (a : Ledger) (t : Tidy (a .slots)) (s : ℕ) (f : File) (r : Rests a s 
 
   found-back : (nm : List ℕ) → fileNamed nm (a .slots) ≡ slot s → nm ≡ f .name
   found-back nm e =
-      let q = seek-found (λ x. Rattle.rules.specs.Directory.named x nm 0) (a .slots) s e in
+      let q = seek-found (λ x. named x nm 0) (a .slots) s e in
       sym (named-hit (nameOf (a .slots) s) nm (q .hit) .same) ∙ part-all (nameOf (a .slots) s) 11 (t .long s (r .low)) ∙ name-is
 
   module _ (n : ℕ) (q : Request) (hn : n < length (a .blocks)) (h8 : n < 8) (a′ : Ledger) (c : Change a n q a′) (spared : q .code ≡ 12 → q .name ≢ f .name) where

@@ -23,6 +23,8 @@ use Rattle.chains.specs.Addresses.{absurd-bool}
 use Rattle.chains.specs.Directory.{Listing, directory-is, places-same}
 use Rattle.demands.specs.Ledger.{File, noFile, Block, closed, listing, reading, writing, Ledger, Sought, nowhere, slot, later, seek, fileNamed, vacantSlot, holdsOpen, busy}
 use Rattle.demands.specs.Relation.{opens, writes, Keeps, Agrees}
+use Rattle.rules.specs.declared.Found.the-variants.{Stopped}
+use Rattle.rules.specs.declared.Found.the-variants.{Slot}
 
 -- ---- bytes of a part
 
@@ -116,7 +118,7 @@ scan-seek look cls (o ∷ os) (f ∷ fs) e h =
     rw (h 0 (omega arith)) (go (cls (f .name)) (scan-seek look cls os fs (omega arith) (λ i b. h (suc i) (omega arith))))
   where
     go : (u : Seen) → lookupOf (scan look os) ≡ lookedUp os (seek cls fs)
-        → lookupOf (onSeen u (Rattle.rules.specs.declared.Found.the-variants.Slot o) Rattle.rules.specs.declared.Found.the-variants.Stopped (scan look os)) ≡ lookedUp (o ∷ os) (onSeen u (slot 0) nowhere (later (seek cls fs)))
+        → lookupOf (onSeen u (Slot o) Stopped (scan look os)) ≡ lookedUp (o ∷ os) (onSeen u (slot 0) nowhere (later (seek cls fs)))
     go Hit ih = refl
     go Stop ih = refl
     go Pass ih = ih ∙ looked-later o os (seek cls fs)

@@ -12,8 +12,8 @@ use lib.Dec.{eqb}
 use borrow.Author.Tests.{eq-eqb, ne-eqb, eqb-true, lt-ltb}
 use Rattle.rules.specs.Bytes.{pick, within, wordAt, part, over, one, zeros}
 use Rattle.rules.specs.Names.{legal}
-use Rattle.rules.specs.Directory.{live, directory, slotsOf, sizeAt}
-use Rattle.rules.specs.Block.{idle, presettable, presetIn}
+use Rattle.rules.specs.Directory.{live, directory, slotsOf, sizeAt, vacant}
+use Rattle.rules.specs.Block.{idle, presettable, presetIn, preset}
 use Rattle.rules.specs.Call.{served, fits}
 use Rattle.laws.specs.Tests.{both}
 use Rattle.laws.specs.Addresses.{Shape}
@@ -147,7 +147,7 @@ module _ (M S : ℕ) (z : Shape M S) (ds : List ℕ) (d : Listing S ds) where
     qc = request (x .tab) n b
 
     wr : Writing S (slotsOf ds) (x .tab) n (file a s) s (w .left)
-    wr = subst (λ (y : Block). Keeps S (slotsOf ds) (x .tab) n (a .slots) y) (w .block) (g .agrees .keeps n hn)
+    wr = subst (λ (y : Block). Keeps S (slotsOf ds) (x .tab) n (a .slots) y) (w .writer) (g .agrees .keeps n hn)
 
     body-length : length ((file a s) .body) ≡ length ((file a s) .secs)
     body-length = ap length (g .agrees .holds s (wr .slot) .body) ∙ length-contents (x .img) ((file a s) .secs)
@@ -175,7 +175,7 @@ module _ (M S : ℕ) (z : Shape M S) (ds : List ℕ) (d : Listing S ds) where
         go (yes e) = omega (arith, q, ap writes (ap (λ (k : ℕ). getD (set (a .blocks) n closed) k closed) e ∙ getD-set-same (a .blocks) n closed closed (omega (arith, g .agrees .nb))))
         go (no e) =
             let y : writes (getD (a .blocks) m closed) ≡ suc s = ap writes (sym (getD-set-other (a .blocks) n m closed closed e)) ∙ q in
-            nobody M S z ds d (x .img) (x .tab) a (g .agrees) n hn s (w .left) (w .block) m hm e (sym (writes-opens (getD (a .blocks) m closed) (omega (arith, y))) ∙ y)
+            nobody M S z ds d (x .img) (x .tab) a (g .agrees) n hn s (w .left) (w .writer) m hm e (sym (writes-opens (getD (a .blocks) m closed) (omega (arith, y))) ∙ y)
 
     shut-fate : Shut (shutBlock M S a n qc (writing s (w .left)))
     shut-fate = go (ℕ-discrete (length (w .left)) 0)
@@ -223,7 +223,7 @@ module _ (M S : ℕ) (z : Shape M S) (ds : List ℕ) (d : Listing S ds) where
     close-fate : fate M S a n qc ≡ shutBlock M S a n qc (writing s (w .left))
     unfolding performed served within fits
     close-fate =
-        fate-of M S a n qc 4 code refl (wr .drive) (ap (λ (y : Block). fits 4 (activity y)) (w .block)) ∙ (rw (code, w .block) refl)
+        fate-of M S a n qc 4 code refl (wr .drive) (ap (λ (y : Block). fits 4 (activity y)) (w .writer)) ∙ (rw (code, w .writer) refl)
 
     pub closed-with : legal nm 0 ≡ true → ClosedWith flex M S x a n nm sent b
     closed-with ok =
@@ -271,7 +271,7 @@ module _ (M S : ℕ) (z : Shape M S) (ds : List ℕ) (d : Listing S ds) where
         ∙ (rw (k .function, ok, none, room) refl)
 
     low : s < length (a .slots)
-    low = seek-found (λ y. Rattle.rules.specs.Directory.vacant y 0) (a .slots) s room .low
+    low = seek-found (λ y. vacant y 0) (a .slots) s room .low
 
     starts : Wrote a1 n s (nameIn x n) []
     unfolding content
@@ -279,7 +279,7 @@ module _ (M S : ℕ) (z : Shape M S) (ds : List ℕ) (d : Listing S ds) where
         let sf = getD-set-same (a .slots) s nf noFile low in
         record {
           left = [];
-          block = getD-set-same (a .blocks) n (writing s []) closed (omega (arith, g .agrees .nb, k .block));
+          writer = getD-set-same (a .blocks) n (writing s []) closed (omega (arith, g .agrees .nb, k .block));
           name = ap (λ (y : File). y .name) sf;
           bytes = ap (λ (y : File). content (y .body) []) sf;
           whole = λ y. sym (ap (λ (y : File). 252 * length (y .secs)) sf);
@@ -306,7 +306,7 @@ module _ (M S : ℕ) (z : Shape M S) (ds : List ℕ) (d : Listing S ds) where
       where
         size-is : (y : Machine) (h : Ledger) → Fine M S ds y h → (sent : List ℕ) → Wrote h n s (nameIn x n) sent → sizeAt (y .img) o ≡ (length sent + 251) / 252
         size-is y h g2 sent w =
-            let wr : Writing S (slotsOf ds) (y .tab) n (file h s) s (w .left) = subst (λ (v : Block). Keeps S (slotsOf ds) (y .tab) n (h .slots) v) (w .block) (g2 .agrees .keeps n (k .block)) in
+            let wr : Writing S (slotsOf ds) (y .tab) n (file h s) s (w .left) = subst (λ (v : Block). Keeps S (slotsOf ds) (y .tab) n (h .slots) v) (w .writer) (g2 .agrees .keeps n (k .block)) in
             let c = g2 .agrees .holds s (wr .slot) .chain (wr .alive) in
             let e : wordAt (y .img) (o + 17) ≡ length ((file h s) .secs) = ap (wordAt (y .img)) (omega arith) ∙ c .size in
             e ∙ sym (count wr (ℕ-discrete (length (w .left)) 0))
@@ -331,14 +331,14 @@ module _ (x : Machine) (st : Start x) (cs : List Call) where
   fine = always (lastOf x) (perOf x) (start-shape x st) ds (start-list x st) cs x (ledgerOf (perOf x) (x .img)) (start-fine x st) .0
 
   preset-done : (n i v : ℕ) → n < 8 → presettable i ≡ true → Idle a0 n → flex .preset (x0 .tab) n i v ≡ replied 0 (over (x0 .tab) (320 * n + i) (one v))
-  unfolding Rattle.rules.specs.Block.preset presetIn
+  unfolding preset presetIn
   preset-done n i v hn p h =
       let q = offset-is i p in
       let act : idle (getD (x0 .tab) (320 * n + 2) 0) ≡ true = ap idle (activity-is (perOf x) (slotsOf ds) (x0 .tab) n (a0 .slots) (block a0 n) (fine .agrees .keeps n hn)) ∙ h in
       rw (eq-eqb (length (x0 .tab)) 2560 (fine .agrees .tlen), lt-ltb n 8 hn, ne-eqb i 0 (omega (arith, q .low)), p, act) refl
 
   function-done : (n v : ℕ) → n < 8 → flex .preset (x0 .tab) n 0 v ≡ replied 0 (over (x0 .tab) (320 * n + 0) (one v))
-  unfolding Rattle.rules.specs.Block.preset presetIn
+  unfolding preset presetIn
   function-done n v hn = rw (eq-eqb (length (x0 .tab)) 2560 (fine .agrees .tlen), lt-ltb n 8 hn) refl
 
 pub demand2 : Demand2 flex

@@ -13,9 +13,9 @@ use Rattle.rules.specs.Bytes.{pick, wordAt, one, two, six, zeros}
 use Rattle.rules.specs.Stores.{Store, store, stored, Put, put, puts}
 use Rattle.rules.specs.Directory.{slotsOf}
 use Rattle.rules.specs.Outcome.{andThen}
-use Rattle.rules.specs.Transfer.{fresh, takeStores, takePuts, takeFor, takeSector, sent, fill}
+use Rattle.rules.specs.Transfer.{fresh, takeStores, takePuts, takeFor, takeSector, sent, fill, writing as writeByte}
 use Rattle.laws.specs.Bytes.{word-put, part-is, part-same, length-zeros, zeros-at}
-use Rattle.chains.specs.Tally.{tally, tally-append, tally-head, eq1-same, apart}
+use Rattle.chains.specs.Tally.{tally, tally-append, tally-head, eq1-same, apart, eq1-ne}
 use Rattle.laws.specs.Addresses.{Shape}
 use Rattle.chains.specs.Addresses.{adr, adr-zero, absurd-bool}
 use Rattle.chains.specs.Chain.{first, lastOf, Chain, tally-last, last-snoc, seg-same, seg-hang, contents-same, contents-append}
@@ -29,7 +29,7 @@ use Rattle.demands.specs.Meets.{Meets}
 use Rattle.chains.specs.Walk.{AllData}
 use Rattle.demands.specs.Sectors.{free-data, secs-data, secs-once, few, fits, sector-small, sector-index, sector-data, last-data, last-none, first-none, index-last, last-fit, first-small, last-small, linked-is}
 use Rattle.demands.specs.Marks.{slot-low, slot-high, slot-in}
-use Rattle.demands.specs.Fills.{w, placed-is, buffer-is, write-in, full-step}
+use Rattle.demands.specs.Fills.{w, placed-is, buffer-is, write-in, full-step, one-is}
 
 module _ (M S : ℕ) (z : Shape M S) (ds : List ℕ) (d : Listing S ds) (img tab : List ℕ) (a : Ledger) (r : Agrees M S ds img tab a) (n : ℕ) (hn : n < 8)
     (s : ℕ) (e : getD (a .blocks) n closed ≡ writing s []) (k : ℕ) (fr : List ℕ) (ef : a .free ≡ k ∷ fr) where
@@ -157,7 +157,7 @@ module _ (M S : ℕ) (z : Shape M S) (ds : List ℕ) (d : Listing S ds) (img tab
     where
       go : Dec (x ≡ k) → (S ≤ x) × (x < (M + 1) * S)
       go (yes q) = (omega (arith, klow), omega (arith, k-data .1))
-      go (no q) = secs-data M S z ds d img tab a r s hs x (omega (arith, t, tally-append x l (k ∷ []), Rattle.chains.specs.Tally.eq1-ne x k q))
+      go (no q) = secs-data M S z ds d img tab a r s hs x (omega (arith, t, tally-append x l (k ∷ []), eq1-ne x k q))
 
   long1 : 2560 ≤ length img
   long1 = long M S z ds d img tab a r
@@ -363,14 +363,14 @@ module _ (M S : ℕ) (z : Shape M S) (ds : List ℕ) (d : Listing S ds) (img tab
   first-byte q s e (k ∷ fr) ef = take-meets M S z ds d img tab a r n hn s e k fr ef (q .byte)
 
   next-byte : (q : Request) (s : ℕ) (ub : List ℕ) → getD (a .blocks) n closed ≡ writing s ub → 1 ≤ length ub
-      → Meets M S ds img tab n (Rattle.rules.specs.Transfer.writing img tab M S (320 * n) (q .byte)) (transferred M S a n q (writing s ub))
-  unfolding Rattle.rules.specs.Transfer.writing fill sent
+      → Meets M S ds img tab n (writeByte img tab M S (320 * n) (q .byte)) (transferred M S a n q (writing s ub))
+  unfolding writeByte fill sent
   next-byte q s ub e h = go (ℕ-discrete (length ub) 251)
     where
       wr : Writing S (slotsOf ds) tab n (getD (a .slots) s noFile) s ub
       wr = w M S z ds d img tab a r n hn s ub e
 
-      go : Dec (length ub ≡ 251) → Meets M S ds img tab n (Rattle.rules.specs.Transfer.writing img tab M S (320 * n) (q .byte)) (transferred M S a n q (writing s ub))
+      go : Dec (length ub ≡ 251) → Meets M S ds img tab n (writeByte img tab M S (320 * n) (q .byte)) (transferred M S a n q (writing s ub))
       go (yes p) =
           let x = wr .busy h in
           let g = last-data M S z ((getD (a .slots) s noFile) .secs) (secs-data M S z ds d img tab a r s (wr .slot)) (wr .some h) in
@@ -383,7 +383,7 @@ module _ (M S : ℕ) (z : Shape M S) (ds : List ℕ) (d : Listing S ds) (img tab
             sector-data M S z (lastOf ((getD (a .slots) s noFile) .secs) 0) g,
             sector-index M S z (lastOf ((getD (a .slots) s noFile) .secs) 0) g,
             buffer-is M S z ds d img tab a r n hn s ub e 251 h (omega arith),
-            Rattle.demands.specs.Fills.one-is (q .byte),
+            one-is (q .byte),
           )
           (refl, unfold one in full-step M S z ds d img tab a r n hn s ub e (q .byte) p)
       go (no p) =
@@ -393,8 +393,8 @@ module _ (M S : ℕ) (z : Shape M S) (ds : List ℕ) (d : Listing S ds) (img tab
           (refl, write-in M S z ds d img tab a r n hn s ub e (q .byte) h (omega arith))
 
   pub write-meets : (q : Request) (s : ℕ) (ub : List ℕ) → getD (a .blocks) n closed ≡ writing s ub
-      → Meets M S ds img tab n (Rattle.rules.specs.Transfer.writing img tab M S (320 * n) (q .byte)) (transferred M S a n q (writing s ub))
-  unfolding Rattle.rules.specs.Transfer.writing takeSector
+      → Meets M S ds img tab n (writeByte img tab M S (320 * n) (q .byte)) (transferred M S a n q (writing s ub))
+  unfolding writeByte takeSector
   write-meets q s [] e =
       let wr = w M S z ds d img tab a r n hn s [] e in
       rw (eq-eqb (tb tab n 34) 0 (wr .idle refl), placed-is M S z ds d img tab a r n hn s [] e) (first-byte q s e (a .free) refl)

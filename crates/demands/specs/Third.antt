@@ -11,24 +11,25 @@ use borrow.Author.Tests.{ne-eqb}
 use Rattle.rules.specs.Bytes.{pick, part}
 use Rattle.rules.specs.Image.{lastTrack, perTrack}
 use Rattle.rules.specs.Directory.{live, directory, slots, slotsOf}
-use Rattle.rules.specs.Census.{Survey, survey, census, listed, owners}
+use Rattle.rules.specs.Census.{Survey, survey, census, listed, owners, tally as count}
 use Rattle.laws.specs.Bytes.{part-is}
 use Rattle.laws.specs.Surveys.{Sane, census-accepts}
 use Rattle.chains.specs.Tally.{tally, flat}
 use Rattle.chains.specs.Once.{Once, once-length}
 use Rattle.laws.specs.Addresses.{Shape}
-use Rattle.chains.specs.Chain.{contents}
+use Rattle.chains.specs.Chain.{contents, empty}
 use Rattle.chains.specs.Directory.{Listing, directory-is}
 use Rattle.chains.specs.Walk.{numbers, length-numbers, tally-is, each-sound, once-complete}
 use Rattle.demands.specs.Ledger.{File, noFile, Block, closed, listing, reading, writing, Ledger, holdsOpen}
 use Rattle.demands.specs.Relation.{secsOf, writes, Keeps, Agrees}
 use Rattle.demands.specs.Searches.{live-at, uses-is}
-use Rattle.demands.specs.Survey.{ledgerOf, ledgerNumbers, ledgerOwners, sectorsAt, fileAt, files-at, listed-is, owners-is, file-is, ledger-free, ledger-slots, sane-back}
+use Rattle.demands.specs.Survey.{ledgerOf, ledgerNumbers, ledgerOwners, sectorsAt, fileAt, files-at, listed-is, owners-is, file-is, ledger-free, ledger-slots, sane-back, length-files, ownersFrom}
 use Rattle.demands.specs.Service.{flex, Call, Machine, run, log}
 use Rattle.demands.specs.History.{history, Told, unfinished, pending, shownFrom, shown, buffered, filesOn}
 use Rattle.demands.specs.Demands.{Start, Sound, Demand3}
 use Rattle.demands.specs.Runs.{Fine, always, start-shape, start-list, start-fine}
 use Rattle.demands.specs.Rests.{Rests, rests-same}
+use Rattle.chains.specs.Addresses.{absurd-bool}
 
 -- ---- of a machine that agrees with a ledger
 
@@ -41,7 +42,7 @@ module _ (M S : ℕ) (z : Shape M S) (ds : List ℕ) (d : Listing S ds) (y : Mac
       let p = ledger-free M S z ds d (y .img) (y .tab) a r in
       let q = ledger-slots M S z ds d (y .img) (y .tab) a r in (
         listed-is S (y .img) ∙ ap₂ (λ (u : List ℕ) (v : List File). numbers S (u ++ flat secsOf v)) p q,
-        owners-is S (y .img) ∙ ap₂ (λ (u : List ℕ) (v : List File). replicate {A = ℕ} (length u) 0 ++ Rattle.demands.specs.Survey.ownersFrom 1 v) p q,
+        owners-is S (y .img) ∙ ap₂ (λ (u : List ℕ) (v : List File). replicate {A = ℕ} (length u) 0 ++ ownersFrom 1 v) p q,
       )
 
   -- the census accepts, and lists what the ledger has
@@ -66,7 +67,7 @@ module _ (M S : ℕ) (z : Shape M S) (ds : List ℕ) (d : Listing S ds) (y : Mac
       sane-here : lastTrack (y .img) ≡ M → perTrack (y .img) ≡ S → Sane (y .img) M S → Sane (y .img) (lastTrack (y .img)) (perTrack (y .img))
       sane-here m s w = rw (m, s) w
 
-  pub once-each : (k : ℕ) → k < M * S → Rattle.rules.specs.Census.tally k (ledgerNumbers S a) ≡ 1
+  pub once-each : (k : ℕ) → k < M * S → count k (ledgerNumbers S a) ≡ 1
   once-each k h = tally-is k (ledgerNumbers S a) ∙ each-sound (M * S) (ledgerNumbers S a) (once-complete M S (a .free ++ flat secsOf (a .slots)) (r .once)) k h
 
   pub no-others : length (ledgerNumbers S a) ≡ M * S
@@ -79,13 +80,13 @@ module _ (M S : ℕ) (z : Shape M S) (ds : List ℕ) (d : Listing S ds) (y : Mac
   -- what a block that writes has in its buffer is what the ledger says is unfinished
   held : (n s : ℕ) → s < length (slotsOf ds) → (b : Block) → Keeps S (slotsOf ds) (y .tab) n (a .slots) b → holdsOpen false s b ≡ true
       → pick (eqb (getD (y .tab) (320 * n + 34) 0) 0) [] (part (y .tab) (320 * n + 68) (getD (y .tab) (320 * n + 34) 0 - 4)) ≡ unfinished b
-  held n s hs closed k h = absurd (Rattle.chains.specs.Addresses.absurd-bool h refl)
-  held n s hs (listing p) k h = absurd (Rattle.chains.specs.Addresses.absurd-bool h refl)
-  held n s hs (reading t j i) k h = absurd (Rattle.chains.specs.Addresses.absurd-bool h refl)
+  held n s hs closed k h = absurd (absurd-bool h refl)
+  held n s hs (listing p) k h = absurd (absurd-bool h refl)
+  held n s hs (reading t j i) k h = absurd (absurd-bool h refl)
   held n s hs (writing t ub) k h = go (ℕ-discrete (length ub) 0)
     where
       go : Dec (length ub ≡ 0) → pick (eqb (getD (y .tab) (320 * n + 34) 0) 0) [] (part (y .tab) (320 * n + 68) (getD (y .tab) (320 * n + 34) 0 - 4)) ≡ ub
-      go (yes e) = rw (k .idle e) (sym (Rattle.chains.specs.Chain.empty ub e))
+      go (yes e) = rw (k .idle e) (sym (empty ub e))
       go (no e) =
           let b = k .busy (omega arith) in
           rw (ne-eqb (getD (y .tab) (320 * n + 34) 0) 0 (omega (arith, b)))
@@ -148,7 +149,7 @@ module _ (x : Machine) (s : Start x) where
   at-rest i h v =
       record {
         is = files-at S (x .img) (slotsOf ds) i h;
-        low = omega (arith, Rattle.demands.specs.Survey.length-files S (x .img) (slotsOf ds));
+        low = omega (arith, length-files S (x .img) (slotsOf ds));
         alive = sym (live-at (x .img) (part (x .img) (getD (slotsOf ds) i 0) 11) (getD (slotsOf ds) i 0) refl) ∙ v;
         quiet = λ m hm w. omega (arith, w, ap writes (getD-replicate {A = Block} 8 m closed closed hm));
       }
