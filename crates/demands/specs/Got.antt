@@ -20,7 +20,7 @@ use Rattle.demands.specs.Relation.{opens, Reading, Keeps}
 use Rattle.demands.specs.Meets.{request}
 use Rattle.demands.specs.Changes.{Changes, changes}
 use Rattle.demands.specs.Service.{flex, Call, setting, extending, asking, Machine, Entry, answers, gave, next, entry, log}
-use Rattle.demands.specs.History.{then, concat, Only, Reads}
+use Rattle.demands.specs.History.{then, concat, had, Only, Reads}
 use Rattle.demands.specs.Runs.{Fine, step, one, set-step, extend-step}
 use Rattle.demands.specs.Sent.{fate-zero, fits-one, open-kept, still, beyond}
 
@@ -43,23 +43,20 @@ concat-at m (k ∷ l) (suc j) i p h b e =
 
 -- ---- where a block that reads is
 
-unfoldable pub posOf : ℕ → ℕ → ℕ
-posOf j i = pick (eqb i 0) (252 * j) (252 * (j - 1) + (i - 4))
-
 -- block n reads slot s, whose bytes are c, and has had p of them
 pub record At (a : Ledger) (n s p : ℕ) (c : List ℕ) : Type 0 where
   pub j : ℕ
   pub i : ℕ
   pub reader : block a n ≡ reading s j i
-  pub pos : p ≡ posOf j i
+  pub pos : p ≡ had j i
   pub bytes : concat ((file a s) .body) ≡ c
 
 pub at-start : (a : Ledger) (n s : ℕ) (c : List ℕ) → block a n ≡ reading s 0 0 → concat ((file a s) .body) ≡ c → At a n s 0 c
-unfolding posOf
+unfolding had
 at-start a n s c e b = record { j = 0; i = 0; reader = e; pos = refl; bytes = b }
 
 -- the next byte, or the end
-data Fetched (a : Ledger) (n s p : ℕ) (c : List ℕ) : Fate → Type 0 where
+pub data Fetched (a : Ledger) (n s p : ℕ) (c : List ℕ) : Fate → Type 0 where
   byte : (v : ℕ) (a′ : Ledger) → p < length c → v ≡ getD c p 0 → At a′ n s (p + 1) c → Fetched a n s p c (granted v a′)
   over : length c ≤ p → Fetched a n s p c (denied 8)
 
@@ -82,8 +79,8 @@ module _ (M S : ℕ) (z : Shape M S) (ds : List ℕ) (d : Listing S ds) where
     set-b : (b : Block) → getD (set (a .blocks) n b) n closed ≡ b
     set-b b = getD-set-same (a .blocks) n b closed (omega (arith, g .agrees .nb))
 
-    fetched : Fetched a n s p c (transferred M S a n q (reading s (t .j) (t .i)))
-    unfolding posOf
+    pub fetched : Fetched a n s p c (transferred M S a n q (reading s (t .j) (t .i)))
+    unfolding had
     fetched = go (ℕ-discrete (t .i) 0)
       where
         -- at the end of a sector

@@ -21,10 +21,10 @@ pub mod History
 pub mod Demands
 pub mod Runs
 pub mod Rests
-pub mod Third
 pub mod First
 pub mod Sent
 pub mod Got
 pub mod Second
+pub mod Third
 pub mod Blank
 pub mod Fakes

@@ -14,7 +14,6 @@ use Rattle.rules.specs.Directory.{slots, slotsOf, neverUsed, deleted, live, onS
 use Rattle.rules.specs.Block.{counts, uses, usedBelow, inUse}
 use Rattle.rules.specs.declared.Seen.{Seen}
 use Rattle.rules.specs.declared.Seen.the-variants.{Hit, Stop, Pass}
-use Rattle.rules.specs.declared.Found.{Found}
 use Rattle.rules.specs.declared.Lookup.{Lookup}
 use Rattle.rules.specs.declared.Lookup.the-variants.{At, Missing}
 use Rattle.laws.specs.Bytes.{part-at, part-same, part-all, length-part, same-eq}

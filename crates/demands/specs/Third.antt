@@ -5,31 +5,38 @@ use mathlib.Core.List.{List, [], _∷_, _++_}
 use Prim.Native.Nat.{ℕ, zero, suc, _+_, _-_, _*_, _≤_, _<_}
 use native.Mathlib.Omega.{arith}
 use native.Mathlib.Decide.{ℕ-discrete}
-use lib.ListN.{length, getD, replicate, getD-replicate}
+use lib.Seq.{getD-drop}
+use lib.ListN.{drop, length-drop, List·getD-eq-default, length, getD, replicate, getD-replicate}
 use lib.Dec.{eqb}
-use borrow.Author.Tests.{ne-eqb}
+use borrow.Author.Tests.{eq-eqb, ne-eqb}
 use Rattle.rules.specs.Bytes.{pick, part}
 use Rattle.rules.specs.Image.{lastTrack, perTrack}
 use Rattle.rules.specs.Directory.{live, directory, slots, slotsOf}
-use Rattle.rules.specs.Census.{Survey, survey, census, listed, owners, tally as count}
+use Rattle.rules.specs.Census.{survey, census, listed, owners, tally as count}
 use Rattle.laws.specs.Bytes.{part-is}
 use Rattle.laws.specs.Surveys.{Sane, census-accepts}
-use Rattle.chains.specs.Tally.{tally, flat}
+use Rattle.chains.specs.Tally.{flat}
 use Rattle.chains.specs.Once.{Once, once-length}
 use Rattle.laws.specs.Addresses.{Shape}
 use Rattle.chains.specs.Chain.{contents, empty}
 use Rattle.chains.specs.Directory.{Listing, directory-is}
 use Rattle.chains.specs.Walk.{numbers, length-numbers, tally-is, each-sound, once-complete}
-use Rattle.demands.specs.Ledger.{File, noFile, Block, closed, listing, reading, writing, Ledger, holdsOpen}
-use Rattle.demands.specs.Relation.{secsOf, writes, Keeps, Agrees}
+use Rattle.demands.specs.Ledger.{File, noFile, Block, closed, listing, reading, writing, Ledger, Fate, reply, gives, holdsOpen, activity, block, file, fate}
+use Rattle.demands.specs.Relation.{secsOf, writes, Keeps, Agrees, Reading}
 use Rattle.demands.specs.Searches.{live-at, uses-is}
 use Rattle.demands.specs.Survey.{ledgerOf, ledgerNumbers, ledgerOwners, sectorsAt, fileAt, files-at, listed-is, owners-is, file-is, ledger-free, ledger-slots, sane-back, length-files, ownersFrom}
-use Rattle.demands.specs.Service.{flex, Call, Machine, run, log}
-use Rattle.demands.specs.History.{history, Told, unfinished, pending, shownFrom, shown, buffered, filesOn}
+use Rattle.demands.specs.Service.{flex, Call, Machine, run, log, answers, gave}
+use Rattle.demands.specs.History.{history, Told, unfinished, pending, shownFrom, shown, buffered, filesOn, concat, had, ahead}
 use Rattle.demands.specs.Demands.{Start, Sound, Demand3}
-use Rattle.demands.specs.Runs.{Fine, always, start-shape, start-list, start-fine}
+use Rattle.demands.specs.Runs.{Fine, always, start-shape, start-list, start-fine, step}
+use Rattle.demands.specs.Meets.{request}
+use Rattle.demands.specs.Sent.{fate-zero, fits-one}
+use Rattle.demands.specs.Got.{Fetched, byte, over, fetched}
 use Rattle.demands.specs.Rests.{Rests, rests-same}
 use Rattle.chains.specs.Addresses.{absurd-bool}
+
+first-left : (p : ℕ) (c : List ℕ) → getD (drop p c) 0 0 ≡ getD c p 0
+first-left p c = getD-drop p c 0 0 ∙ ap (λ (i : ℕ). getD c i 0) (omega arith)
 
 -- ---- of a machine that agrees with a ledger
 
@@ -129,6 +136,38 @@ module _ (M S : ℕ) (z : Shape M S) (ds : List ℕ) (d : Listing S ds) (y : Mac
       ∙ shown-list (slotsOf ds) (a .slots) 0 (r .ns) (λ i b. file-is M S z ds d (y .img) (y .tab) a r i b)
       (λ i b. buffered-is i b 8 (omega arith) ∙ ap (λ (x : ℕ). pending (a .blocks) x 8) (omega arith))
 
+  -- ---- a block that reads
+
+  pub reader-next : (n b : ℕ) → n < 8 → activity (block a n) ≡ 1 → getD (y .tab) (320 * n + 0) 0 ≡ 0
+      → (answers flex y n b ≡ pick (eqb (length (ahead a (block a n))) 0) 8 0) × (gave flex y n b ≡ getD (ahead a (block a n)) 0 0)
+  reader-next n b hn e code = go (block a n) refl e
+    where
+      go : (o : Block) → block a n ≡ o → activity o ≡ 1
+          → (answers flex y n b ≡ pick (eqb (length (ahead a o)) 0) 8 0) × (gave flex y n b ≡ getD (ahead a o) 0 0)
+      go closed o e = absurd (omega arith)
+      go (listing p) o e = absurd (omega arith)
+      go (writing s ub) o e = absurd (omega arith)
+      go (reading s j i) o e =
+          let k : Reading S (slotsOf ds) (y .tab) n (getD (a .slots) s noFile) s j i = subst (λ (v : Block). Keeps S (slotsOf ds) (y .tab) n (a .slots) v) o (r .keeps n hn) in
+          let φ = fate-zero M S a n (request (y .tab) n b) (reading s j i) code (k .drive) o fits-one in
+          let st = step M S z ds d y a f n b hn in
+          by s j i (fate M S a n (request (y .tab) n b)) (st .ans) (st .byte)
+          (subst (Fetched a n s (had j i) (concat ((file a s) .body))) (sym φ)
+          (fetched M S z ds d y a f n s (had j i) (concat ((file a s) .body)) hn (record { j = j; i = i; reader = o; pos = refl; bytes = refl }) (request (y .tab) n b)))
+        where
+          by : (s j i : ℕ) (ψ : Fate) → answers flex y n b ≡ reply ψ → gave flex y n b ≡ gives ψ → Fetched a n s (had j i) (concat ((file a s) .body)) ψ
+              → (answers flex y n b ≡ pick (eqb (length (ahead a (reading s j i))) 0) 8 0) × (gave flex y n b ≡ getD (ahead a (reading s j i)) 0 0)
+          by s j i ψ an gv (byte v a′ h k u) =
+              let l = length-drop (had j i) (concat ((file a s) .body)) in (
+                an ∙ sym (ap (λ (w : Bool). pick w 8 0) (ne-eqb (length (drop (had j i) (concat ((file a s) .body)))) 0 (omega (arith, l)))),
+                gv ∙ k ∙ sym (first-left (had j i) (concat ((file a s) .body))),
+              )
+          by s j i ψ an gv (over h) =
+              let l = length-drop (had j i) (concat ((file a s) .body)) in (
+                an ∙ sym (ap (λ (w : Bool). pick w 8 0) (eq-eqb (length (drop (had j i) (concat ((file a s) .body)))) 0 (omega (arith, l)))),
+                gv ∙ sym (first-left (had j i) (concat ((file a s) .body)) ∙ List·getD-eq-default (concat ((file a s) .body)) 0 h),
+              )
+
 -- ---- the demand
 
 module _ (x : Machine) (s : Start x) where
@@ -178,6 +217,7 @@ module _ (x : Machine) (s : Start x) where
           each-once = once-each M S z ds d y h (f .0);
           no-more = no-others M S z ds d y h (f .0);
           files = files-shown M S z ds d y h (f .0);
+          readers = λ n b hn e c. reader-next M S z ds d y h (f .0) n b hn e c;
           places = same-slots;
           spared = λ i b v u.
               let q = rests-same M S z ds d cs x a (start-fine x s) i (fileAt S (x .img) (getD (slotsOf ds) i 0)) (at-rest i b v) u in
