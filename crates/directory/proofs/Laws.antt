@@ -3,7 +3,6 @@ use mathlib.Core.Path.{_≡_, refl, sym, ap, _∙_}
 use mathlib.Core.Bool.{Bool, true, false}
 use mathlib.Core.List.{List, [], _∷_, _++_}
 use Prim.Native.Nat.{ℕ, zero, suc, _+_, _-_, _*_, _/_, _%_, _≤_, _<_}
-use native.Mathlib.Nat.{mul-le-mul}
 use native.Mathlib.Omega.{arith}
 use lib.ListN.{getD}
 use lib.Dec.{leb}
@@ -20,7 +19,6 @@ use Rattle.rules.specs.declared.Found.the-variants.{Slot, Stopped, Further}
 use Rattle.rules.specs.declared.Lookup.{Lookup}
 use Rattle.rules.specs.declared.Lookup.the-variants.{At, Missing, Broken}
 use Rattle.laws.specs.Bytes.{same-no, same-on, same-end}
-use Rattle.laws.specs.Tests.{pick-all}
 use Rattle.laws.specs.Walk.{ends-more, ends-none, sectors-more, sectors-none, slots-more, slots-none, onFound, scan-append}
 use Rattle.directory.specs.Sought.{looked, sought, behind}
 
@@ -253,37 +251,6 @@ module _ (img : List ℕ) (S a d : ℕ) {r : Bool} (e : r ≡ directoryRight img
         pub placed-at : u ≡ true → At (256 * k + d) ≡ placed img S a d
         unfolding placed
         placed-at z = rw (← e, j, ← q, l, ← x, ← p, f, ← g, z) refl
-
--- a slot that a place names begins below 2 ^ 24
-Low : Lookup → Type 0
-Low o = (slot : ℕ) → o ≡ At slot → slot < 16777216
-
-placed-below : (img : List ℕ) (S a d : ℕ) → S < 256 → d < 256 → Low (placed img S a d)
-unfolding placed index Low
-placed-below img S a d h k =
-    pick-all Low (directoryRight img S) _ Broken
-    (pick-all Low (isDirectory S a) _ Missing
-    (pick-all Low (member (index S a) (directory img S)) _ Missing
-    (pick-all Low (isDisplacement d) _ Missing
-    (λ slot e. at slot (cc))
-    (λ slot e. none slot e))
-    (λ slot e. none slot e))
-    (λ slot e. none slot e))
-    (λ slot e. let z : _≡_ {A = ℕ} 0 1 = cc in omega arith)
-  where
-    none : (slot : ℕ) → Missing ≡ At slot → slot < 16777216
-    none slot e = let z : _≡_ {A = ℕ} 0 1 = cc in omega arith
-
-    at : (slot : ℕ) → 256 * (a / 256 % 256 * S + a % 256 - 1) + d ≡ slot → slot < 16777216
-    at slot e =
-        let t : a / 256 % 256 ≤ 255 = omega arith in
-        let s : S ≤ 255 = omega arith in
-        let m : a / 256 % 256 * S ≤ 65025 = mul-le-mul t s in
-        omega arith
-
-pub placed-low : (img : List ℕ) (S a d : ℕ) {o : Lookup} {slot : ℕ} → S < 256 → d < 256 → o ≡ placed img S a d → o ≡ At slot → slot < 16777216
-unfolding Low
-placed-low img S a d {slot = slot} h k e q = placed-below img S a d h k slot (sym e ∙ q)
 
 -- ---- the slot behind
 
