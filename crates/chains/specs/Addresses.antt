@@ -69,7 +69,8 @@ module _ (M S : ℕ) (z : Shape M S) (x : ℕ) (lo : 1 ≤ x) (hi : x < (M + 1) 
       go (suc q) e = absurd (omega (arith, div-add-mod' x S, ap (λ (n : ℕ). n * S) e))
 
 -- an address that passes the test of a data sector is that of its index
-pub data-index : (M S : ℕ) → Shape M S → (a : ℕ) → a < 65536 → isData M S a ≡ true → (adr S (index S a) ≡ a) × (S ≤ index S a) × (index S a < (M + 1) * S)
+pub data-index : (M S : ℕ) → Shape M S → (a : ℕ) → a < 65536 → isData M S a ≡ true
+    → (adr S (index S a) ≡ a) × (S ≤ index S a) × (index S a < (M + 1) * S)
 data-index M S z a h d =
     let l = data-is M S a d in
     let low = data-low M S a l in

@@ -39,7 +39,8 @@ first-high : (M S : ℕ) → Shape M S → (l : List ℕ) → InImage M S l → 
 first-high M S z [] g = omega (arith, z .sectors)
 first-high M S z (k ∷ l) g = g k (tally-head k l) .1
 
-seg-length : (M S : ℕ) → Shape M S → (m l l′ : List ℕ) → InImage M S l → InImage M S l′ → Seg S m l 0 → Seg S m l′ 0 → first l 0 ≡ first l′ 0 → length l ≡ length l′
+seg-length : (M S : ℕ) → Shape M S → (m l l′ : List ℕ) → InImage M S l → InImage M S l′ → Seg S m l 0 → Seg S m l′ 0 → first l 0 ≡ first l′ 0
+    → length l ≡ length l′
 seg-length M S z m [] [] g g′ s s′ e = refl
 seg-length M S z m [] (k ∷ l′) g g′ s s′ e = absurd (omega (arith, g′ k (tally-head k l′), e))
 seg-length M S z m (k ∷ l) [] g g′ s s′ e = absurd (omega (arith, g k (tally-head k l), e))

@@ -103,7 +103,8 @@ module _ (M S : ℕ) (z : Shape M S) (m : List ℕ) where
       (rw (i, s .0, r .0) refl, rw (data-adr M S z k (omega (arith, q .0, z .sectors)) (q .1) (q .0), i, s .0) (r .1))
 
   -- a chain that the census finds right is a chain
-  pub chain-sound : Small m → (p : ℕ) → chainRight m M S (wordAt m p) (wordAt m (p + 2)) (wordAt m (p + 4)) ≡ true → Chain S m p (chainAt S m p) × AllData M S (chainAt S m p)
+  pub chain-sound : Small m → (p : ℕ) → chainRight m M S (wordAt m p) (wordAt m (p + 2)) (wordAt m (p + 4)) ≡ true
+      → Chain S m p (chainAt S m p) × AllData M S (chainAt S m p)
   unfolding chainRight
   chain-sound small p h =
       let q = both (leb (wordAt m (p + 4)) (M * S)) _ h in

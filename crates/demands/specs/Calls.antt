@@ -50,7 +50,8 @@ module _ (M S : ℕ) (z : Shape M S) (ds : List ℕ) (d : Listing S ds) (img tab
   abbrev q : Request
   q = request tab n b
 
-  transfer-meets : (o : Block) → getD (a .blocks) n closed ≡ o → fits 0 (activity o) ≡ true → Meets M S ds img tab n (transfer img tab M S (320 * n) b) (transferred M S a n q o)
+  transfer-meets : (o : Block) → getD (a .blocks) n closed ≡ o → fits 0 (activity o) ≡ true
+      → Meets M S ds img tab n (transfer img tab M S (320 * n) b) (transferred M S a n q o)
   unfolding transfer fits within
   transfer-meets closed e h = absurd-bool h refl
   transfer-meets (listing p) e h = absurd-bool h refl
@@ -61,7 +62,8 @@ module _ (M S : ℕ) (z : Shape M S) (ds : List ℕ) (d : Listing S ds) (img tab
       let k : Writing S (slotsOf ds) tab n (getD (a .slots) s noFile) s ub = subst (λ (x : Block). Keeps S (slotsOf ds) tab n (a .slots) x) e (r .keeps n hn) in
       rw (k .act) (write-meets M S z ds d img tab a r n hn q s ub e)
 
-  shut-meets : (o : Block) → getD (a .blocks) n closed ≡ o → fits 4 (activity o) ≡ true → Meets M S ds img tab n (close img tab M S (320 * n)) (shutBlock M S a n q o)
+  shut-meets : (o : Block) → getD (a .blocks) n closed ≡ o → fits 4 (activity o) ≡ true
+      → Meets M S ds img tab n (close img tab M S (320 * n)) (shutBlock M S a n q o)
   unfolding fits within
   shut-meets closed e h = absurd-bool h refl
   shut-meets (listing p) e h = close-meets M S z ds d img tab a r n hn q (listing p) e (λ x. let y : _≡_ {A = ℕ} 0 1 = cc in omega arith)
@@ -75,7 +77,8 @@ module _ (M S : ℕ) (z : Shape M S) (ds : List ℕ) (d : Listing S ds) (img tab
   back-meets (reading s j i) e h = rewind-meets M S z ds d img tab a r n hn s j i e q
   back-meets (writing s ub) e h = absurd-bool h refl
 
-  list-meets : (o : Block) → getD (a .blocks) n closed ≡ o → fits 7 (activity o) ≡ true → Meets M S ds img tab n (nextSlot img tab S (320 * n)) (shownNext M S a n q o)
+  list-meets : (o : Block) → getD (a .blocks) n closed ≡ o → fits 7 (activity o) ≡ true
+      → Meets M S ds img tab n (nextSlot img tab S (320 * n)) (shownNext M S a n q o)
   unfolding fits
   list-meets closed e h = absurd-bool h refl
   list-meets (listing p) e h = next-slot-meets M S z ds d img tab a r n hn q p e
@@ -85,11 +88,13 @@ module _ (M S : ℕ) (z : Shape M S) (ds : List ℕ) (d : Listing S ds) (img tab
   abbrev code : ℕ
   code = getD tab (320 * n + 0) 0
 
-  by-code : (k : ℕ) (x y : Outcome) (x′ y′ : Fate) → (eqb code k ≡ true → Meets M S ds img tab n x x′) → (eqb code k ≡ false → Meets M S ds img tab n y y′)
+  by-code : (k : ℕ) (x y : Outcome) (x′ y′ : Fate) → (eqb code k ≡ true → Meets M S ds img tab n x x′)
+      → (eqb code k ≡ false → Meets M S ds img tab n y y′)
       → Meets M S ds img tab n (pick (eqb code k) x y) (pick (eqb code k) x′ y′)
   by-code k x y x′ y′ = meets-pick M S ds img tab n (eqb code k) (eqb code k) x y x′ y′ refl
 
-  perform-meets : tb tab n 3 ≡ 0 → fits code (activity (block a n)) ≡ true → Meets M S ds img tab n (perform img tab M S (320 * n) b) (performed M S a n q)
+  perform-meets : tb tab n 3 ≡ 0 → fits code (activity (block a n)) ≡ true
+      → Meets M S ds img tab n (perform img tab M S (320 * n) b) (performed M S a n q)
   unfolding perform performed
   perform-meets dr h =
       let ok = fits-at code in
@@ -148,7 +153,8 @@ offset-is i h = go (within 3 14 i) refl (within 25 27 i) refl (within 30 31 i) r
     span : (lo hi : ℕ) → within lo hi i ≡ true → (lo ≤ i) × (i ≤ hi)
     span lo hi e = within-is lo hi i e
 
-    go : (u : Bool) → within 3 14 i ≡ u → (v : Bool) → within 25 27 i ≡ v → (w : Bool) → within 30 31 i ≡ w → pick u true (pick v true (pick w true (within 53 63 i))) ≡ true → Offset i
+    go : (u : Bool) → within 3 14 i ≡ u → (v : Bool) → within 25 27 i ≡ v → (w : Bool) → within 30 31 i ≡ w
+        → pick u true (pick v true (pick w true (within 53 63 i))) ≡ true → Offset i
     go true e v f w g h = let s = span 3 14 e in record { low = omega arith; high = omega arith; not-place = λ x y. omega arith }
     go false e true f w g h = let s = span 25 27 f in record { low = omega arith; high = omega arith; not-place = λ x y. omega arith }
     go false e false f true g h = let s = span 30 31 g in record { low = omega arith; high = omega arith; not-place = λ x y. omega arith }

@@ -36,13 +36,16 @@ pub data Change (a : Ledger) (n : ℕ) (q : Request) : Ledger → Type 0 where
   still : q .code ≢ 13 → Change a n q a
   turned : q .code ≢ 13 → (b : Block) → Steady a n b → Change a n q (onBlock a n b)
   -- the file that block n writes: its bytes, or it is dropped
-  worked : q .code ≢ 13 → (s : ℕ) (ub fr : List ℕ) (f : File) (b : Block) → block a n ≡ writing s ub → f .name ≡ (file a s) .name → Steady a n b → Change a n q (onFile a fr s f n b)
+  worked : q .code ≢ 13 → (s : ℕ) (ub fr : List ℕ) (f : File) (b : Block) → block a n ≡ writing s ub → f .name ≡ (file a s) .name → Steady a n b
+      → Change a n q (onFile a fr s f n b)
   dropped : q .code ≢ 13 → (s : ℕ) (ub : List ℕ) → block a n ≡ writing s ub → Change a n q (onFile a (a .free) s (withMark (file a s)) n closed)
   -- a new file; one deleted by its name; one renamed by its name
   made : q .code ≢ 13 → (s : ℕ) → legal (q .name) 0 ≡ true → fileNamed (q .name) (a .slots) ≡ nowhere → vacantSlot (a .slots) ≡ slot s
       → Change a n q (onFile a (a .free) s (newFile (q .name) (q .date)) n (writing s []))
-  gone : (s : ℕ) → q .code ≡ 12 → fileNamed (q .name) (a .slots) ≡ slot s → busy true s (a .blocks) 8 ≡ false → Change a n q (onFile a (a .free ++ (file a s) .secs) s (withMark (file a s)) n (block a n))
-  retitled : (s : ℕ) → q .code ≡ 13 → fileNamed (q .name) (a .slots) ≡ slot s → busy true s (a .blocks) 8 ≡ false → legal (q .rename) 0 ≡ true → fileNamed (q .rename) (a .slots) ≡ nowhere
+  gone : (s : ℕ) → q .code ≡ 12 → fileNamed (q .name) (a .slots) ≡ slot s → busy true s (a .blocks) 8 ≡ false
+      → Change a n q (onFile a (a .free ++ (file a s) .secs) s (withMark (file a s)) n (block a n))
+  retitled : (s : ℕ) → q .code ≡ 13 → fileNamed (q .name) (a .slots) ≡ slot s → busy true s (a .blocks) 8 ≡ false → legal (q .rename) 0 ≡ true
+      → fileNamed (q .rename) (a .slots) ≡ nowhere
       → Change a n q (onFile a (a .free) s (withName (file a s) (q .rename)) n (block a n))
 
 abbrev pub Changes : Ledger → ℕ → Request → Fate → Type 0
@@ -62,7 +65,8 @@ last-code : (c : ℕ) → served c ≡ true → c ≢ 0 → c ≢ 1 → c ≢ 2 
 unfolding served
 last-code c h a0 a1 a2 a4 a5 a6 a7 a9 a12 = go (within 0 2 c) refl (within 4 7 c) refl (eqb c 9) refl h
   where
-    go : (u : Bool) → within 0 2 c ≡ u → (v : Bool) → within 4 7 c ≡ v → (w : Bool) → eqb c 9 ≡ w → pick u true (pick v true (pick w true (within 12 13 c))) ≡ true → c ≡ 13
+    go : (u : Bool) → within 0 2 c ≡ u → (v : Bool) → within 4 7 c ≡ v → (w : Bool) → eqb c 9 ≡ w
+        → pick u true (pick v true (pick w true (within 12 13 c))) ≡ true → c ≡ 13
     go true e v f w g h = absurd (low-code c (within-is 0 2 c e .1) a0 a1 a2)
     go false e true f w g h = let p = within-is 4 7 c f in absurd (mid-code c (p .0) (p .1) a4 a5 a6 a7)
     go false e false f true g h = absurd (a9 (eqb-true c 9 g))
@@ -185,8 +189,10 @@ pub data Slot (a a′ : Ledger) (n : ℕ) (q : Request) (s : ℕ) : Type 0 where
   kept : file a′ s ≡ file a s → (q .code ≡ 13 → fileNamed (q .name) (a .slots) ≢ slot s) → Slot a a′ n q s
   own : (ub : List ℕ) → block a n ≡ writing s ub → Slot a a′ n q s
   fresh : vacantSlot (a .slots) ≡ slot s → Slot a a′ n q s
-  lost : q .code ≡ 12 → fileNamed (q .name) (a .slots) ≡ slot s → busy true s (a .blocks) 8 ≡ false → (s < length (a .slots) → file a′ s ≡ withMark (file a s)) → Slot a a′ n q s
-  moved : q .code ≡ 13 → fileNamed (q .name) (a .slots) ≡ slot s → busy true s (a .blocks) 8 ≡ false → (s < length (a .slots) → file a′ s ≡ withName (file a s) (q .rename)) → Slot a a′ n q s
+  lost : q .code ≡ 12 → fileNamed (q .name) (a .slots) ≡ slot s → busy true s (a .blocks) 8 ≡ false
+      → (s < length (a .slots) → file a′ s ≡ withMark (file a s)) → Slot a a′ n q s
+  moved : q .code ≡ 13 → fileNamed (q .name) (a .slots) ≡ slot s → busy true s (a .blocks) 8 ≡ false
+      → (s < length (a .slots) → file a′ s ≡ withName (file a s) (q .rename)) → Slot a a′ n q s
 
 pub slot-fate : (a a′ : Ledger) (n : ℕ) (q : Request) → Change a n q a′ → (s : ℕ) → Slot a a′ n q s
 slot-fate a a′ n q (still ne) s = kept refl (λ c. absurd (ne c))
@@ -242,7 +248,8 @@ rename-legal a a′ n q (gone s x y by) e = absurd (omega (arith, e, x))
 rename-legal a a′ n q (retitled s x y by w v) e = w
 
 -- who writes a slot afterwards wrote it before, or has just made it
-pub writes-before : (a a′ : Ledger) (n : ℕ) (q : Request) → n < length (a .blocks) → Change a n q a′ → (m s : ℕ) → writes (block a′ m) ≡ suc s → vacantSlot (a .slots) ≢ slot s → writes (block a m) ≡ suc s
+pub writes-before : (a a′ : Ledger) (n : ℕ) (q : Request) → n < length (a .blocks) → Change a n q a′ → (m s : ℕ) → writes (block a′ m) ≡ suc s
+    → vacantSlot (a .slots) ≢ slot s → writes (block a m) ≡ suc s
 writes-before a a′ n q hn c m s w v = go (ℕ-discrete m n)
   where
     here : (b : Block) → writes (getD (set (a .blocks) n b) m closed) ≡ suc s → m ≡ n → writes b ≡ suc s
@@ -317,7 +324,8 @@ module _ (a : Ledger) (t : Tidy (a .slots)) where
       (λ u i b. go i (p .low) b (hit .alive) (neverUsed (nameOf (a .slots) i) 0) refl)
       (λ u j ne b k. found-none (q .rename) (a .slots) t v j b k)
     where
-      go : (i : ℕ) → s < length (a .slots) → i < s → live (nameOf (a .slots) s) 0 ≡ true → (u : Bool) → neverUsed (nameOf (a .slots) i) 0 ≡ u → u ≡ false
+      go : (i : ℕ) → s < length (a .slots) → i < s → live (nameOf (a .slots) s) 0 ≡ true → (u : Bool) → neverUsed (nameOf (a .slots) i) 0 ≡ u
+          → u ≡ false
       go i hs b l false e = refl
       go i hs b l true e = absurd-bool l (t .solid i s b hs e)
 

@@ -125,7 +125,8 @@ module _ (σ : Service) (M S : ℕ) where
   -- a new file is opened for write: accepted
   pub record Created (x : Machine) (a : Ledger) (n o b : ℕ) : Type 0 where
     pub opens : answers σ x n b ≡ 0
-    pub writes : (cs : List Call) → Only n 0 (log σ (next σ x (asking n b)) cs) → WrittenTo (next σ x (asking n b)) (ledgerAfter x a n b) n o (nameIn x n) cs
+    pub writes : (cs : List Call) → Only n 0 (log σ (next σ x (asking n b)) cs)
+        → WrittenTo (next σ x (asking n b)) (ledgerAfter x a n b) n o (nameIn x n) cs
 
 -- what the history has after these calls: a fold over the log, from the ledger of the start's image on
 abbrev pub told : Service → Machine → List Call → Ledger

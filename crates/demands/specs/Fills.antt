@@ -176,7 +176,8 @@ module _ (M S : ℕ) (z : Shape M S) (ds : List ℕ) (d : Listing S ds) (img tab
       unfolding one
       fsame b i u v = puts-clear (fs b) tab (320 * n) i (omega arith)
 
-      full-now : (b : ℕ) (f′ : File) → f′ .secs ≡ g .secs → f′ .name ≡ g .name → 1 ≤ length (g .secs) → Writing S (slotsOf ds) (puts tab (320 * n) (fs b)) n f′ s []
+      full-now : (b : ℕ) (f′ : File) → f′ .secs ≡ g .secs → f′ .name ≡ g .name → 1 ≤ length (g .secs)
+          → Writing S (slotsOf ds) (puts tab (320 * n) (fs b)) n f′ s []
       unfolding one
       full-now b f′ es en so = record {
         act = fsame b 2 (omega arith) (omega arith) ∙ w .act;
@@ -221,7 +222,8 @@ module _ (M S : ℕ) (z : Shape M S) (ds : List ℕ) (d : Listing S ds) (img tab
     shut-step : Agrees M S ds img (puts tab (320 * n) shutPs) (onBlock a n closed)
     shut-step = shut-block M S z ds d img tab a r n hn (puts tab (320 * n) shutPs) closed shut-turn refl refl shut-now
 
-    close-writing : (q : Request) (s : ℕ) (ub : List ℕ) → getD (a .blocks) n closed ≡ writing s ub → Meets M S ds img tab n (closeWriting img tab M S (320 * n)) (shutBlock M S a n q (writing s ub))
+    close-writing : (q : Request) (s : ℕ) (ub : List ℕ) → getD (a .blocks) n closed ≡ writing s ub
+        → Meets M S ds img tab n (closeWriting img tab M S (320 * n)) (shutBlock M S a n q (writing s ub))
     unfolding closeWriting shut mark
     close-writing q s ub e =
         let w = w s ub e in
@@ -251,7 +253,8 @@ module _ (M S : ℕ) (z : Shape M S) (ds : List ℕ) (d : Listing S ds) (img tab
             go (yes p) = ap₂ (λ (x y : ℕ). eqb x y) (w .idle p) refl ∙ sym (eq-eqb (length ub) 0 p)
             go (no p) = ne-eqb (tb tab n 34) 0 (omega (arith, w .busy (omega arith))) ∙ sym (ne-eqb (length ub) 0 p)
 
-    pub close-meets : (q : Request) (b : Block) → getD (a .blocks) n closed ≡ b → b ≢ closed → Meets M S ds img tab n (close img tab M S (320 * n)) (shutBlock M S a n q b)
+    pub close-meets : (q : Request) (b : Block) → getD (a .blocks) n closed ≡ b → b ≢ closed
+        → Meets M S ds img tab n (close img tab M S (320 * n)) (shutBlock M S a n q b)
     unfolding close shut
     close-meets q closed e ne = absurd (ne refl)
     close-meets q (listing p) e ne =

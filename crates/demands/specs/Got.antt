@@ -31,7 +31,8 @@ concat-length m [] = refl
 concat-length m (k ∷ l) =
     omega (arith, length-append (part m (256 * k + 4) 252) (concat (contents m l)), length-part m (256 * k + 4) 252, concat-length m l)
 
-concat-at : (m l : List ℕ) (j i p : ℕ) → j < length l → i < 252 → 252 * j + i ≡ p → getD (concat (contents m l)) p 0 ≡ getD (getD (contents m l) j []) i 0
+concat-at : (m l : List ℕ) (j i p : ℕ) → j < length l → i < 252 → 252 * j + i ≡ p
+    → getD (concat (contents m l)) p 0 ≡ getD (getD (contents m l) j []) i 0
 concat-at m [] j i p h b e = absurd (omega arith)
 concat-at m (k ∷ l) zero i p h b e =
     ap (λ (q : ℕ). getD (concat (contents m (k ∷ l))) q 0) (omega arith)
@@ -166,7 +167,8 @@ module _ (M S : ℕ) (z : Shape M S) (ds : List ℕ) (d : Listing S ds) where
           go (no q) = other q
 
   -- READING: whatever else is called, the bytes come in order, and then 8
-  pub reads : (cs : List Call) (x : Machine) (a : Ledger) → Fine M S ds x a → (n s p : ℕ) (c : List ℕ) → n < 8 → At a n s p c → Only n 0 (log flex x cs) → Reads n p c (log flex x cs)
+  pub reads : (cs : List Call) (x : Machine) (a : Ledger) → Fine M S ds x a → (n s p : ℕ) (c : List ℕ) → n < 8 → At a n s p c
+      → Only n 0 (log flex x cs) → Reads n p c (log flex x cs)
   unfolding log entry
   reads [] x a g n s p c hn t op = tt
   reads (setting m i v ∷ cs) x a g n s p c hn t op = reads cs (next flex x (setting m i v)) a (set-step M S z ds d x a g m i v) n s p c hn t op

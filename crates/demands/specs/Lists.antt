@@ -89,7 +89,8 @@ module _ (M S : ℕ) (z : Shape M S) (ds : List ℕ) (d : Listing S ds) (img tab
           let q2 : (w .k + 1) % 256 ≡ 0 = sym (ap (λ (x : ℕ). (x + 1) % 256) (v .0)) ∙ q in
           absurd (omega (arith, q2, w .low, w .high, z .most-sectors))
 
-  pub next-slot-meets : (q : Request) (p : ℕ) → getD (a .blocks) n closed ≡ listing p → Meets M S ds img tab n (nextSlot img tab S (320 * n)) (shownNext M S a n q (listing p))
+  pub next-slot-meets : (q : Request) (p : ℕ) → getD (a .blocks) n closed ≡ listing p
+      → Meets M S ds img tab n (nextSlot img tab S (320 * n)) (shownNext M S a n q (listing p))
   unfolding nextSlot
   next-slot-meets q zero e =
       let k : Listed (slotsOf ds) tab n 0 = subst (λ (b : Block). Keeps S (slotsOf ds) tab n (a .slots) b) e (r .keeps n hn) in

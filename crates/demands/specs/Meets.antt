@@ -35,16 +35,19 @@ module _ (M S : ℕ) (ds img tab : List ℕ) (n : ℕ) where
   Meets (done b ss ps) (denied e) = ⊥
   Meets (done b ss ps) (granted b′ a) = (b ≡ b′) × Agrees M S ds (stored img ss) (puts tab (320 * n) ps) a
 
-  pub meets-pick : (u v : Bool) (x y : Outcome) (x′ y′ : Fate) → u ≡ v → (v ≡ true → Meets x x′) → (v ≡ false → Meets y y′) → Meets (pick u x y) (pick v x′ y′)
+  pub meets-pick : (u v : Bool) (x y : Outcome) (x′ y′ : Fate) → u ≡ v → (v ≡ true → Meets x x′) → (v ≡ false → Meets y y′)
+      → Meets (pick u x y) (pick v x′ y′)
   meets-pick u true x y x′ y′ e p q = rw e (p refl)
   meets-pick u false x y x′ y′ e p q = rw e (q refl)
 
   -- refused where the test does not hold
-  pub meets-unless : (u v : Bool) (e : ℕ) (x : Outcome) (x′ : Fate) → u ≡ v → e ≢ 0 → (v ≡ true → Meets x x′) → Meets (pick u x (refuse e)) (pick v x′ (denied e))
+  pub meets-unless : (u v : Bool) (e : ℕ) (x : Outcome) (x′ : Fate) → u ≡ v → e ≢ 0 → (v ≡ true → Meets x x′)
+      → Meets (pick u x (refuse e)) (pick v x′ (denied e))
   meets-unless u v e x x′ q h p = meets-pick u v x (refuse e) x′ (denied e) q p (λ k. (refl, h))
 
   -- refused where it does
-  pub meets-when : (u v : Bool) (e : ℕ) (x : Outcome) (x′ : Fate) → u ≡ v → e ≢ 0 → (v ≡ false → Meets x x′) → Meets (pick u (refuse e) x) (pick v (denied e) x′)
+  pub meets-when : (u v : Bool) (e : ℕ) (x : Outcome) (x′ : Fate) → u ≡ v → e ≢ 0 → (v ≡ false → Meets x x′)
+      → Meets (pick u (refuse e) x) (pick v (denied e) x′)
   meets-when u v e x x′ q h p = meets-pick u v (refuse e) x (denied e) x′ q (λ k. (refl, h)) p
 
 -- a refusal's number is not 0

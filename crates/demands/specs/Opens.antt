@@ -55,7 +55,8 @@ module _ (M S : ℕ) (z : Shape M S) (ds : List ℕ) (d : Listing S ds) (img tab
   unfolding one placeOf
   open-turn = turned tab n ps (omega (arith, le, length-zeros 6))
 
-  at : (q j i : ℕ) → q < 6 → j < length (valuesOf (getD ps q noPut)) → fieldOf (getD ps q noPut) + j ≡ i → i < 320 → Clear i (drop (suc q) ps) → tb tab′ n i ≡ getD (valuesOf (getD ps q noPut)) j 0
+  at : (q j i : ℕ) → q < 6 → j < length (valuesOf (getD ps q noPut)) → fieldOf (getD ps q noPut) + j ≡ i → i < 320 → Clear i (drop (suc q) ps)
+      → tb tab′ n i ≡ getD (valuesOf (getD ps q noPut)) j 0
   at q j i g u v t c = puts-at ps tab (320 * n) q j i (omega arith) u v (omega (arith, r .tlen)) c
 
   open-entry : (i : ℕ) → 4 ≤ i → i < 28 → tb tab′ n i ≡ getD es (i - 4) 0
@@ -106,7 +107,8 @@ module _ (M S : ℕ) (z : Shape M S) (ds : List ℕ) (d : Listing S ds) (img tab
     le : length es ≡ 24
     le = length-part img o 24
 
-    open-read : busy false s (a .blocks) 8 ≡ false → Agrees M S ds img (puts tab (320 * n) (ps M S z ds d img tab a r n hn 1 o es le)) (onBlock a n (reading s 0 0))
+    open-read : busy false s (a .blocks) 8 ≡ false
+        → Agrees M S ds img (puts tab (320 * n) (ps M S z ds d img tab a r n hn 1 o es le)) (onBlock a n (reading s 0 0))
     open-read free =
         step-block M S z ds d img tab a r (tab′ M S z ds d img tab a r n hn 1 o es le) n (reading s 0 0) hn (open-turn M S z ds d img tab a r n hn 1 o es le) now (λ n′ h e w. absurd (omega arith))
         (λ n′ h e w. not-written s (getD (a .blocks) n′ closed) (not-busy false s (a .blocks) 8 n′ free h))

@@ -115,7 +115,8 @@ pub record Agrees (M S : ℕ) (ds img tab : List ℕ) (a : Ledger) : Type 0 wher
   pub free : Chain S img 541 (a .free)
   pub holds : (s : ℕ) → s < length (slotsOf ds) → Holds S img (getD (slotsOf ds) s 0) (getD (a .slots) s noFile)
   pub keeps : (n : ℕ) → n < 8 → Keeps S (slotsOf ds) tab n (a .slots) (getD (a .blocks) n closed)
-  pub alone : (n n′ : ℕ) → n ≢ n′ → n < 8 → n′ < 8 → 1 ≤ writes (getD (a .blocks) n closed) → writes (getD (a .blocks) n closed) ≢ opens (getD (a .blocks) n′ closed)
+  pub alone : (n n′ : ℕ) → n ≢ n′ → n < 8 → n′ < 8 → 1 ≤ writes (getD (a .blocks) n closed)
+      → writes (getD (a .blocks) n closed) ≢ opens (getD (a .blocks) n′ closed)
   pub once : Once S ((M + 1) * S) (a .free ++ flat secsOf (a .slots))
 
 -- ---- frames of the table
@@ -239,7 +240,8 @@ module _ (M S : ℕ) (z : Shape M S) (ds : List ℕ) (d : Listing S ds) (img tab
       is : (x : ℕ) → x ≡ n → getD (set (a .blocks) n b) x closed ≡ b
       is x e = ap (λ (c : ℕ). getD (set (a .blocks) n b) c closed) e ∙ getD-set-same (a .blocks) n b closed (omega (arith, r .nb))
 
-      go : Dec (x ≡ n) → Dec (y ≡ n) → 1 ≤ writes (getD (set (a .blocks) n b) x closed) → writes (getD (set (a .blocks) n b) x closed) ≢ opens (getD (set (a .blocks) n b) y closed)
+      go : Dec (x ≡ n) → Dec (y ≡ n) → 1 ≤ writes (getD (set (a .blocks) n b) x closed)
+          → writes (getD (set (a .blocks) n b) x closed) ≢ opens (getD (set (a .blocks) n b) y closed)
       go (yes e) (yes e′) = absurd (ne (e ∙ sym e′))
       go (yes e) (no e′) = rw (is x e, getD-set-other (a .blocks) n y b closed e′) (p y hy e′)
       go (no e) (yes e′) = rw (is y e′, getD-set-other (a .blocks) n x b closed e) (λ w z. q x hx e (omega arith) z)
@@ -264,7 +266,8 @@ module _ (M S : ℕ) (z : Shape M S) (ds : List ℕ) (d : Listing S ds) (img tab
         once = r .once;
       }
 
-  pub step : (img′ tab′ ks fr : List ℕ) (n s : ℕ) (f : File) (b : Block) → n < 8 → s < length (slotsOf ds) → Frame S ds img img′ ks s → Turn tab tab′ n
+  pub step : (img′ tab′ ks fr : List ℕ) (n s : ℕ) (f : File) (b : Block) → n < 8 → s < length (slotsOf ds) → Frame S ds img img′ ks s
+      → Turn tab tab′ n
       → Chain S img′ 541 fr → Holds S img′ (getD (slotsOf ds) s 0) f → Keeps S (slotsOf ds) tab′ n (set (a .slots) s f) b
       → ((x : ℕ) → 1 ≤ tally x ks → 1 ≤ tally x (a .free) + tally x (secsOf (getD (a .slots) s noFile)))
       → ((x : ℕ) → tally x fr + tally x (secsOf f) ≡ tally x (a .free) + tally x (secsOf (getD (a .slots) s noFile)))

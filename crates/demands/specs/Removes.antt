@@ -71,7 +71,8 @@ module _ (M S : ℕ) (z : Shape M S) (ds : List ℕ) (d : Listing S ds) (img tab
     abbrev img′ : List ℕ
     img′ = stored img hangS
 
-    link-off : (p : ℕ) → (1 ≤ length fr → 256 * lastOf fr 0 ≤ p → p < 256 * lastOf fr 0 + 2 → ⊥) → 256 * lastOf fr 0 + 0 ≤ p → p < 256 * lastOf fr 0 + 0 + length lk → ⊥
+    link-off : (p : ℕ) → (1 ≤ length fr → 256 * lastOf fr 0 ≤ p → p < 256 * lastOf fr 0 + 2 → ⊥) → 256 * lastOf fr 0 + 0 ≤ p
+        → p < 256 * lastOf fr 0 + 0 + length lk → ⊥
     unfolding two
     link-off p g u v = go (ℕ-discrete (length fr) 0)
       where
@@ -79,7 +80,8 @@ module _ (M S : ℕ) (z : Shape M S) (ds : List ℕ) (d : Listing S ds) (img tab
         go (yes q) = let t : length lk ≡ 0 = rw (eq-eqb (length fr) 0 q) refl in omega (arith, t)
         go (no q) = let t : length lk ≡ 2 = rw (ne-eqb (length fr) 0 q) refl in g (omega arith) (omega arith) (omega (arith, t))
 
-    keep : (p : ℕ) → (1 ≤ length fr → 256 * lastOf fr 0 ≤ p → p < 256 * lastOf fr 0 + 2 → ⊥) → (541 ≤ p → p < 547 → ⊥) → p ≢ o → getD img′ p 0 ≡ getD img p 0
+    keep : (p : ℕ) → (1 ≤ length fr → 256 * lastOf fr 0 ≤ p → p < 256 * lastOf fr 0 + 2 → ⊥) → (541 ≤ p → p < 547 → ⊥) → p ≢ o
+        → getD img′ p 0 ≡ getD img p 0
     unfolding six one
     keep p a b c = stored-off hangS img p (link-off p a, ((λ u v. b (omega arith) (omega arith)), ((λ u v. omega (arith, c)), tt)))
 
@@ -135,7 +137,8 @@ module _ (M S : ℕ) (z : Shape M S) (ds : List ℕ) (d : Listing S ds) (img tab
         at : (i p : ℕ) → i < 6 → 541 + i ≡ p → getD img′ p 0 ≡ getD (six (adr S (first (fr ++ l) 0)) (adr S (lastOf l 0)) (length fr + length l)) i 0
         at i p b q = stored-at hangS img 1 i p (omega arith) (omega arith) (omega arith) (omega (arith, long1)) (omega (arith, olow))
 
-    hang-step : (n : ℕ) (tab′ : List ℕ) (b : Block) → n < 8 → Turn tab tab′ n → opens b ≡ 0 → Keeps S (slotsOf ds) tab′ n (set (a .slots) s (withMark f)) b
+    hang-step : (n : ℕ) (tab′ : List ℕ) (b : Block) → n < 8 → Turn tab tab′ n → opens b ≡ 0
+        → Keeps S (slotsOf ds) tab′ n (set (a .slots) s (withMark f)) b
         → ((n′ : ℕ) → n′ < 8 → n′ ≢ n → opens (getD (a .blocks) n′ closed) ≢ suc s)
         → Agrees M S ds img′ tab′ (onFile a (fr ++ l) s (withMark f) n b)
     unfolding six one
@@ -202,7 +205,8 @@ module _ (M S : ℕ) (z : Shape M S) (ds : List ℕ) (d : Listing S ds) (img tab
     unfolding remove gone mark
     remove-meets = go (ℕ-discrete (length l) 0)
       where
-        go : Dec (length l ≡ 0) → Meets M S ds img tab n (remove img M S o) (granted 0 (onFile a (fr ++ l) s (withMark f) n (getD (a .blocks) n closed)))
+        go : Dec (length l ≡ 0)
+            → Meets M S ds img tab n (remove img M S o) (granted 0 (onFile a (fr ++ l) s (withMark f) n (getD (a .blocks) n closed)))
         go (yes p) =
             let q : fr ++ l ≡ fr = ap (λ (x : List ℕ). fr ++ x) (empty l p) ∙ append-nil fr in
             rw (e17, eq-eqb (length l) 0 p, q)
@@ -329,7 +333,8 @@ module _ (M S : ℕ) (z : Shape M S) (ds : List ℕ) (d : Listing S ds) (img tab
           (λ h2. meets-when M S ds img tab n _ (writeProtected (attributes a s)) 11 _ _ (ap writeProtected (attributes-is s hs)) (omega arith)
           (λ h11. last s hs alive h2 v y))
         where
-          last : (s : ℕ) (hs : s < length (slotsOf ds)) → live ((getD (a .slots) s noFile) .name) 0 ≡ true → busy true s (a .blocks) 8 ≡ false → live nn 0 ≡ true → (y : Sought)
+          last : (s : ℕ) (hs : s < length (slotsOf ds)) → live ((getD (a .slots) s noFile) .name) 0 ≡ true → busy true s (a .blocks) 8 ≡ false
+              → live nn 0 ≡ true → (y : Sought)
               → Meets M S ds img tab n
               (onNone (lookedUp (slotsOf ds) y) 5 3 (done 0 (store (getD (slotsOf ds) s 0 / 256) (getD (slotsOf ds) s 0 % 256) nn ∷ []) (put 4 nn ∷ [])))
               (onSought y (granted 0 (onFile a (a .free) s (withName (getD (a .slots) s noFile) nn) n (getD (a .blocks) n closed))) (λ t. denied 3))

@@ -105,7 +105,8 @@ module _ (M S : ℕ) (z : Shape M S) (ds : List ℕ) (d : Listing S ds) where
     e = record { n = n; ask = request (x .tab) n b; ans = answers flex x n b; back = gave flex x n b }
 
     -- what the entry says of the file
-    rest-one : (s : ℕ) (f : File) → Rests a s f → deletes (f .name) e ≡ false → Rests (then M S a e) s (titled f (renames (f .name) e) ((request (x .tab) n b) .rename))
+    rest-one : (s : ℕ) (f : File) → Rests a s f → deletes (f .name) e ≡ false
+        → Rests (then M S a e) s (titled f (renames (f .name) e) ((request (x .tab) n b) .rename))
     unfolding deletes renames
     rest-one s f r k = go (ℕ-discrete (answers flex x n b) 0) (decLt n 8)
       where
@@ -119,7 +120,8 @@ module _ (M S : ℕ) (z : Shape M S) (ds : List ℕ) (d : Listing S ds) where
             rw (eq-eqb (answers flex x n b) 0 q)
             (by (fate M S a n (request (x .tab) n b)) (changes M S a n (request (x .tab) n b)) (st .sure) (st .ans) (rw (eq-eqb (answers flex x n b) 0 q) at k))
           where
-            by : (φ : Fate) → Changes a n (request (x .tab) n b) φ → Sure φ → answers flex x n b ≡ reply φ → pick (eqb ((request (x .tab) n b) .code) 12) (same ((request (x .tab) n b) .name) (f .name)) false ≡ false
+            by : (φ : Fate) → Changes a n (request (x .tab) n b) φ → Sure φ → answers flex x n b ≡ reply φ
+                → pick (eqb ((request (x .tab) n b) .code) 12) (same ((request (x .tab) n b) .name) (f .name)) false ≡ false
                 → Rests (after a φ) s (titled f (pick (eqb ((request (x .tab) n b) .code) 13) (same ((request (x .tab) n b) .name) (f .name)) false) ((request (x .tab) n b) .rename))
             by (denied v) c su an k = absurd (su (sym an ∙ q))
             by (granted v a′) c su an k =
@@ -160,7 +162,8 @@ module _ (M S : ℕ) (z : Shape M S) (ds : List ℕ) (d : Listing S ds) where
       let y = unnamed-survives nm es (v .2) in
       ((v .0, subst (λ (k : List ℕ). Survives k es) (sym q) (y .0)), ap (λ (k : List ℕ). nameThen k es) q ∙ y .1)
 
-  pub rests-same : (cs : List Call) (x : Machine) (a : Ledger) → Fine M S ds x a → (s : ℕ) (f : File) → Rests a s f → Unnamed (f .name) (log flex x cs)
+  pub rests-same : (cs : List Call) (x : Machine) (a : Ledger) → Fine M S ds x a → (s : ℕ) (f : File) → Rests a s f
+      → Unnamed (f .name) (log flex x cs)
       → Rests (history M S a (log flex x cs)) s f
   rests-same cs x a g s f r v =
       let y = unnamed-survives (f .name) (log flex x cs) v in

@@ -133,7 +133,8 @@ module _ (M S : ℕ) (z : Shape M S) (ds : List ℕ) (d : Listing S ds) where
               )
 
   -- THE HISTORY: after every list of calls
-  pub always : (cs : List Call) (x : Machine) (a : Ledger) → Fine M S ds x a → Fine M S ds (run flex x cs) (history M S a (log flex x cs)) × Told M S a (log flex x cs)
+  pub always : (cs : List Call) (x : Machine) (a : Ledger) → Fine M S ds x a
+      → Fine M S ds (run flex x cs) (history M S a (log flex x cs)) × Told M S a (log flex x cs)
   unfolding run log history entry
   always [] x a f = (f, tt)
   always (setting n i v ∷ cs) x a f = always cs (next flex x (setting n i v)) a (set-step x a f n i v)

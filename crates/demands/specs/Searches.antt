@@ -138,7 +138,8 @@ unfolding seek
 seek-found cls [] s h = absurd (slot-not s h)
 seek-found cls (f ∷ fs) s h = go (cls (f .name)) refl (seek cls fs) refl h (λ t q. seek-found cls fs t q)
   where
-    go : (u : Seen) → cls (f .name) ≡ u → (x : Sought) → seek cls fs ≡ x → onSeen u (slot 0) nowhere (later x) ≡ slot s → ((t : ℕ) → seek cls fs ≡ slot t → Sat cls fs t) → Sat cls (f ∷ fs) s
+    go : (u : Seen) → cls (f .name) ≡ u → (x : Sought) → seek cls fs ≡ x → onSeen u (slot 0) nowhere (later x) ≡ slot s
+        → ((t : ℕ) → seek cls fs ≡ slot t → Sat cls fs t) → Sat cls (f ∷ fs) s
     go Hit e x y h ih = subst (λ (t : ℕ). Sat cls (f ∷ fs) t) (slot-same 0 s h) (record { low = omega arith; hit = e })
     go Stop e x y h ih = absurd (slot-not s h)
     go Pass e nowhere y h ih = absurd (slot-not s h)
@@ -180,7 +181,8 @@ module _ (M S : ℕ) (z : Shape M S) (ds : List ℕ) (d : Listing S ds) (img tab
   used-below readers s hs (suc n) h =
       rw (uses-is readers s hs n (getD (a .blocks) n closed) (r .keeps n (omega arith)), used-below readers s hs n (omega arith)) refl
 
-  pub in-use-is : (readers : Bool) (s : ℕ) → s < length (slotsOf ds) → inUse readers tab (placeOf (getD (slotsOf ds) s 0)) ≡ busy readers s (a .blocks) 8
+  pub in-use-is : (readers : Bool) (s : ℕ) → s < length (slotsOf ds)
+      → inUse readers tab (placeOf (getD (slotsOf ds) s 0)) ≡ busy readers s (a .blocks) 8
   unfolding inUse
   in-use-is readers s hs = used-below readers s hs 8 (omega arith)
 
@@ -196,12 +198,14 @@ module _ (M S : ℕ) (z : Shape M S) (ds : List ℕ) (d : Listing S ds) (img tab
 
 -- ---- what busy says of a block
 
-pub not-busy : (readers : Bool) (s : ℕ) (bs : List Block) (c n : ℕ) → busy readers s bs c ≡ false → n < c → holdsOpen readers s (getD bs n closed) ≡ false
+pub not-busy : (readers : Bool) (s : ℕ) (bs : List Block) (c n : ℕ) → busy readers s bs c ≡ false → n < c
+    → holdsOpen readers s (getD bs n closed) ≡ false
 unfolding busy
 not-busy readers s bs zero n e h = absurd (omega arith)
 not-busy readers s bs (suc c) n e h = go (λ q h. not-busy readers s bs c n q h) (holdsOpen readers s (getD bs c closed)) refl e (ℕ-discrete n c)
   where
-    go : (busy readers s bs c ≡ false → n < c → holdsOpen readers s (getD bs n closed) ≡ false) → (u : Bool) → holdsOpen readers s (getD bs c closed) ≡ u
+    go : (busy readers s bs c ≡ false → n < c → holdsOpen readers s (getD bs n closed) ≡ false) → (u : Bool)
+        → holdsOpen readers s (getD bs c closed) ≡ u
         → pick u true (busy readers s bs c) ≡ false → Dec (n ≡ c) → holdsOpen readers s (getD bs n closed) ≡ false
     go ih true p q d = absurd-bool {b = true} refl q
     go ih false p q (yes x) = ap (λ (y : ℕ). holdsOpen readers s (getD bs y closed)) x ∙ p

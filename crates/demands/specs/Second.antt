@@ -97,11 +97,13 @@ module _ (M S : ℕ) (z : Shape M S) (ds : List ℕ) (d : Listing S ds) where
           let st = step M S z ds d x a g n b h in
           by (fate M S a n (request (x .tab) n b)) (changes M S a n (request (x .tab) n b)) (st .sure) (st .ans)
         where
-          by : (φ : Fate) → Changes a n (request (x .tab) n b) φ → Sure φ → answers flex x n b ≡ reply φ → legal ((request (x .tab) n b) .rename) 0 ≡ true
+          by : (φ : Fate) → Changes a n (request (x .tab) n b) φ → Sure φ → answers flex x n b ≡ reply φ
+              → legal ((request (x .tab) n b) .rename) 0 ≡ true
           by (denied v) k su an = absurd (su (sym an ∙ q))
           by (granted v a′) k su an = rename-legal a a′ n (request (x .tab) n b) k c
 
-  legal-then : (cs : List Call) (x : Machine) (a : Ledger) → Fine M S ds x a → (nm : List ℕ) → legal nm 0 ≡ true → legal (nameThen nm (log flex x cs)) 0 ≡ true
+  legal-then : (cs : List Call) (x : Machine) (a : Ledger) → Fine M S ds x a → (nm : List ℕ) → legal nm 0 ≡ true
+      → legal (nameThen nm (log flex x cs)) 0 ≡ true
   unfolding log entry nameThen
   legal-then [] x a g nm l = l
   legal-then (setting n i v ∷ cs) x a g nm l = legal-then cs (next flex x (setting n i v)) a (set-step M S z ds d x a g n i v) nm l
@@ -111,7 +113,8 @@ module _ (M S : ℕ) (z : Shape M S) (ds : List ℕ) (d : Listing S ds) where
       legal-then cs (next flex x (asking n b)) (then M S a en) (one-call M S z ds d x a g n b .0) (nameAfter nm en) (rename-ok x a g n b nm l (renames nm en) refl)
 
   -- the history's ledger after an accepted call
-  ledger-after : (x : Machine) (a a′ : Ledger) (n b v : ℕ) → fate M S a n (request (x .tab) n b) ≡ granted v a′ → answers flex x n b ≡ 0 → ledgerAfter flex M S x a n b ≡ a′
+  ledger-after : (x : Machine) (a a′ : Ledger) (n b v : ℕ) → fate M S a n (request (x .tab) n b) ≡ granted v a′ → answers flex x n b ≡ 0
+      → ledgerAfter flex M S x a n b ≡ a′
   unfolding history entry
   ledger-after x a a′ n b v e q = rw (eq-eqb (answers flex x n b) 0 q, e) refl
 
@@ -304,14 +307,16 @@ module _ (M S : ℕ) (z : Shape M S) (ds : List ℕ) (d : Listing S ds) where
               });
         }
       where
-        size-is : (y : Machine) (h : Ledger) → Fine M S ds y h → (sent : List ℕ) → Wrote h n s (nameIn x n) sent → sizeAt (y .img) o ≡ (length sent + 251) / 252
+        size-is : (y : Machine) (h : Ledger) → Fine M S ds y h → (sent : List ℕ) → Wrote h n s (nameIn x n) sent
+            → sizeAt (y .img) o ≡ (length sent + 251) / 252
         size-is y h g2 sent w =
             let wr : Writing S (slotsOf ds) (y .tab) n (file h s) s (w .left) = subst (λ (v : Block). Keeps S (slotsOf ds) (y .tab) n (h .slots) v) (w .writer) (g2 .agrees .keeps n (k .block)) in
             let c = g2 .agrees .holds s (wr .slot) .chain (wr .alive) in
             let e : wordAt (y .img) (o + 17) ≡ length ((file h s) .secs) = ap (wordAt (y .img)) (omega arith) ∙ c .size in
             e ∙ sym (count wr (ℕ-discrete (length (w .left)) 0))
           where
-            count : Writing S (slotsOf ds) (y .tab) n (file h s) s (w .left) → Dec (length (w .left) ≡ 0) → (length sent + 251) / 252 ≡ length ((file h s) .secs)
+            count : Writing S (slotsOf ds) (y .tab) n (file h s) s (w .left) → Dec (length (w .left) ≡ 0)
+                → (length sent + 251) / 252 ≡ length ((file h s) .secs)
             count wr (yes q) = sectors-whole (length sent) (length ((file h s) .secs)) (w .whole q) .0
             count wr (no q) = sectors-part (length sent) (length ((file h s) .secs)) (length (w .left)) (w .part (omega arith)) (omega arith) (wr .short) .0
 
@@ -330,7 +335,8 @@ module _ (x : Machine) (st : Start x) (cs : List Call) where
   fine : Fine (lastOf x) (perOf x) ds x0 a0
   fine = always (lastOf x) (perOf x) (start-shape x st) ds (start-list x st) cs x (ledgerOf (perOf x) (x .img)) (start-fine x st) .0
 
-  preset-done : (n i v : ℕ) → n < 8 → presettable i ≡ true → Idle a0 n → flex .preset (x0 .tab) n i v ≡ replied 0 (over (x0 .tab) (320 * n + i) (one v))
+  preset-done : (n i v : ℕ) → n < 8 → presettable i ≡ true → Idle a0 n
+      → flex .preset (x0 .tab) n i v ≡ replied 0 (over (x0 .tab) (320 * n + i) (one v))
   unfolding preset presetIn
   preset-done n i v hn p h =
       let q = offset-is i p in

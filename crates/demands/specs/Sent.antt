@@ -221,7 +221,8 @@ module _ (M S : ℕ) (z : Shape M S) (ds : List ℕ) (d : Listing S ds) where
   unfolding sentBy
   sent-own n e es = go (eqb (e .n) n) (eqb (e .ans) 0)
     where
-      go : (u v : Bool) → pick u (pick v (e .ask .byte ∷ sentBy n es) (sentBy n es)) (sentBy n es) ≡ pick u (pick v (e .ask .byte ∷ []) []) [] ++ sentBy n es
+      go : (u v : Bool)
+          → pick u (pick v (e .ask .byte ∷ sentBy n es) (sentBy n es)) (sentBy n es) ≡ pick u (pick v (e .ask .byte ∷ []) []) [] ++ sentBy n es
       go true true = refl
       go true false = refl
       go false v = refl
@@ -297,7 +298,8 @@ module _ (M S : ℕ) (z : Shape M S) (ds : List ℕ) (d : Listing S ds) where
           go (no q) = other q
 
   -- WRITING: whatever else is called, the file has what was sent to it, and while a sector is free every byte is accepted
-  pub written : (cs : List Call) (x : Machine) (a : Ledger) → Fine M S ds x a → (n s : ℕ) (nm sent : List ℕ) → n < 8 → Wrote a n s nm sent → Only n 0 (log flex x cs)
+  pub written : (cs : List Call) (x : Machine) (a : Ledger) → Fine M S ds x a → (n s : ℕ) (nm sent : List ℕ) → n < 8 → Wrote a n s nm sent
+      → Only n 0 (log flex x cs)
       → Wrote (history M S a (log flex x cs)) n s nm (sent ++ sentBy n (log flex x cs)) × Accepts flex M S n x a cs
   unfolding log history entry sentBy
   written [] x a g n s nm sent hn w op = (subst (λ (l : List ℕ). Wrote a n s nm l) (sym (append-nil sent)) w, tt)

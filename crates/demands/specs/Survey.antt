@@ -142,7 +142,8 @@ right-files M S img (o ∷ os) h = rw (go (live img o) refl) (right-files M S im
     go true e = h 0 (omega arith) e
 
 -- the chain of a slot, as the census and as the relation name its record
-record-at : (M S : ℕ) (img : List ℕ) (o : ℕ) → chainRight img M S (startAt img o) (endAt img o) (sizeAt img o) ≡ chainRight img M S (wordAt img (o + 13)) (wordAt img (o + 13 + 2)) (wordAt img (o + 13 + 4))
+record-at : (M S : ℕ) (img : List ℕ) (o : ℕ)
+    → chainRight img M S (startAt img o) (endAt img o) (sizeAt img o) ≡ chainRight img M S (wordAt img (o + 13)) (wordAt img (o + 13 + 2)) (wordAt img (o + 13 + 4))
 record-at M S img o = ap₂ (λ (x y : ℕ). chainRight img M S (wordAt img (o + 13)) (wordAt img x) (wordAt img y)) (omega arith) (omega arith)
 
 flat-data : (M S : ℕ) (fs : List File) → ((i : ℕ) → i < length fs → AllData M S (secsOf (getD fs i noFile))) → AllData M S (flat secsOf fs)
@@ -252,7 +253,8 @@ module _ (M S : ℕ) (z : Shape M S) (img : List ℕ) (h : Sized M S img) (small
             (sym (name-at i (long i a)) ∙ w ∙ name-at j (long j b));
       }
     where
-      two : (i j : ℕ) → i ≢ j → i < length (slotsOf ds) → j < length (slotsOf ds) → live img (getD (slotsOf ds) i 0) ≡ true → live img (getD (slotsOf ds) j 0) ≡ true
+      two : (i j : ℕ) → i ≢ j → i < length (slotsOf ds) → j < length (slotsOf ds) → live img (getD (slotsOf ds) i 0) ≡ true
+          → live img (getD (slotsOf ds) j 0) ≡ true
           → part img (getD (slotsOf ds) i 0) 11 ≢ part img (getD (slotsOf ds) j 0) 11
       two i j ne a b u v w = go (native.Mathlib.Decide.decLt i j)
         where
@@ -281,7 +283,8 @@ module _ (M S : ℕ) (z : Shape M S) (ds : List ℕ) (d : Listing S ds) (img tab
   secs-back : (s : ℕ) → s < length (slotsOf ds) → sectorsAt S img (getD (slotsOf ds) s 0) ≡ (getD (a .slots) s noFile) .secs
   secs-back s b = rw (live-back s b) (go (live ((getD (a .slots) s noFile) .name) 0) refl)
     where
-      go : (u : Bool) → live ((getD (a .slots) s noFile) .name) 0 ≡ u → pick u (chainAt S img (getD (slotsOf ds) s 0 + 13)) [] ≡ (getD (a .slots) s noFile) .secs
+      go : (u : Bool) → live ((getD (a .slots) s noFile) .name) 0 ≡ u
+          → pick u (chainAt S img (getD (slotsOf ds) s 0 + 13)) [] ≡ (getD (a .slots) s noFile) .secs
       go true e = file-back s b e .0
       go false e = sym (r .holds s b .dead e)
 
@@ -322,5 +325,6 @@ module _ (M S : ℕ) (z : Shape M S) (ds : List ℕ) (d : Listing S ds) (img tab
             ∙ once-complete M S (a .free ++ flat secsOf (a .slots)) (r .once));
       }
     where
-      unused-back : (i : ℕ) → i < length (slotsOf ds) → neverUsed img (getD (slotsOf ds) i 0) ≡ true → neverUsed ((getD (a .slots) i noFile) .name) 0 ≡ true
+      unused-back : (i : ℕ) → i < length (slotsOf ds) → neverUsed img (getD (slotsOf ds) i 0) ≡ true
+          → neverUsed ((getD (a .slots) i noFile) .name) 0 ≡ true
       unused-back i b e = ap (λ (x : List ℕ). neverUsed x 0) (sym (r .holds i b .name)) ∙ sym (unused-part img (getD (slotsOf ds) i 0)) ∙ e

@@ -95,7 +95,8 @@ module _ (M S : ℕ) (z : Shape M S) (ds : List ℕ) (d : Listing S ds) (img tab
   abbrev img′ : List ℕ
   img′ = stored img takeS
 
-  third : (p : ℕ) → (1 ≤ length l → 256 * lastOf l 0 ≤ p → p < 256 * lastOf l 0 + 2 → ⊥) → 256 * lastOf l 0 + 0 ≤ p → p < 256 * lastOf l 0 + 0 + length lk → ⊥
+  third : (p : ℕ) → (1 ≤ length l → 256 * lastOf l 0 ≤ p → p < 256 * lastOf l 0 + 2 → ⊥) → 256 * lastOf l 0 + 0 ≤ p
+      → p < 256 * lastOf l 0 + 0 + length lk → ⊥
   unfolding two
   third p g u v = go (ℕ-discrete (length l) 0)
     where
@@ -103,7 +104,8 @@ module _ (M S : ℕ) (z : Shape M S) (ds : List ℕ) (d : Listing S ds) (img tab
       go (yes q) = let t : length lk ≡ 0 = rw (eq-eqb (length l) 0 q) refl in omega (arith, t)
       go (no q) = let t : length lk ≡ 2 = rw (ne-eqb (length l) 0 q) refl in g (omega arith) (omega arith) (omega (arith, t))
 
-  off : (p : ℕ) → (541 ≤ p → p < 547 → ⊥) → (256 * k ≤ p → p < 256 * k + 256 → ⊥) → (1 ≤ length l → 256 * lastOf l 0 ≤ p → p < 256 * lastOf l 0 + 2 → ⊥)
+  off : (p : ℕ) → (541 ≤ p → p < 547 → ⊥) → (256 * k ≤ p → p < 256 * k + 256 → ⊥)
+      → (1 ≤ length l → 256 * lastOf l 0 ≤ p → p < 256 * lastOf l 0 + 2 → ⊥)
       → (o + 13 ≤ p → p < o + 19 → ⊥) → Off p takeS
   unfolding six
   off p a b c d =
@@ -113,7 +115,8 @@ module _ (M S : ℕ) (z : Shape M S) (ds : List ℕ) (d : Listing S ds) (img tab
   ql h = last-data M S z l (secs-data M S z ds d img tab a r s hs) h .0
 
   -- outside of what is stored to
-  keep : (p : ℕ) → (541 ≤ p → p < 547 → ⊥) → (256 * k ≤ p → p < 256 * k + 256 → ⊥) → (1 ≤ length l → 256 * lastOf l 0 ≤ p → p < 256 * lastOf l 0 + 2 → ⊥)
+  keep : (p : ℕ) → (541 ≤ p → p < 547 → ⊥) → (256 * k ≤ p → p < 256 * k + 256 → ⊥)
+      → (1 ≤ length l → 256 * lastOf l 0 ≤ p → p < 256 * lastOf l 0 + 2 → ⊥)
       → (o + 13 ≤ p → p < o + 19 → ⊥) → getD img′ p 0 ≡ getD img p 0
   keep p a b c d = stored-off takeS img p (off p a b c d)
 
@@ -322,7 +325,8 @@ module _ (M S : ℕ) (z : Shape M S) (ds : List ℕ) (d : Listing S ds) (img tab
   free-eq : (wordAt img 545 ≡ length (k ∷ fr)) × (wordAt img 541 ≡ adr S k) × (wordAt img 543 ≡ adr S (lastOf fr k))
   free-eq = (fc .size, fc .start, fc .end)
 
-  pub take-meets : (b : ℕ) → Meets M S ds img tab n (andThen (takeFor img tab M S (320 * n) o) (sent 4 b)) (granted 0 (onFile a fr s grown n (writing s (b ∷ []))))
+  pub take-meets : (b : ℕ)
+      → Meets M S ds img tab n (andThen (takeFor img tab M S (320 * n) o) (sent 4 b)) (granted 0 (onFile a fr s grown n (writing s (b ∷ []))))
   unfolding takeFor takePuts sent
   take-meets b =
       let sd = secs-data M S z ds d img tab a r s hs in
@@ -350,7 +354,8 @@ module _ (M S : ℕ) (z : Shape M S) (ds : List ℕ) (d : Listing S ds) (img tab
 -- ---- function 0 in writing
 
 module _ (M S : ℕ) (z : Shape M S) (ds : List ℕ) (d : Listing S ds) (img tab : List ℕ) (a : Ledger) (r : Agrees M S ds img tab a) (n : ℕ) (hn : n < 8) where
-  no-more : (s b : ℕ) → getD (a .blocks) n closed ≡ writing s [] → a .free ≡ [] → Meets M S ds img tab n (andThen (takeFor img tab M S (320 * n) (getD (slotsOf ds) s 0)) (sent 4 b)) (denied 7)
+  no-more : (s b : ℕ) → getD (a .blocks) n closed ≡ writing s [] → a .free ≡ []
+      → Meets M S ds img tab n (andThen (takeFor img tab M S (320 * n) (getD (slotsOf ds) s 0)) (sent 4 b)) (denied 7)
   unfolding takeFor
   no-more s b e ef =
       let wr = w M S z ds d img tab a r n hn s [] e in

@@ -92,7 +92,8 @@ module _ (M S : ℕ) (z : Shape M S) (ds : List ℕ) (d : Listing S ds) (y : Mac
   held n s hs (reading t j i) k h = absurd (absurd-bool h refl)
   held n s hs (writing t ub) k h = go (ℕ-discrete (length ub) 0)
     where
-      go : Dec (length ub ≡ 0) → pick (eqb (getD (y .tab) (320 * n + 34) 0) 0) [] (part (y .tab) (320 * n + 68) (getD (y .tab) (320 * n + 34) 0 - 4)) ≡ ub
+      go : Dec (length ub ≡ 0)
+          → pick (eqb (getD (y .tab) (320 * n + 34) 0) 0) [] (part (y .tab) (320 * n + 68) (getD (y .tab) (320 * n + 34) 0 - 4)) ≡ ub
       go (yes e) = rw (k .idle e) (sym (empty ub e))
       go (no e) =
           let b = k .busy (omega arith) in
@@ -155,7 +156,8 @@ module _ (M S : ℕ) (z : Shape M S) (ds : List ℕ) (d : Listing S ds) (y : Mac
           (subst (Fetched a n s (had j i) (concat ((file a s) .body))) (sym φ)
           (fetched M S z ds d y a f n s (had j i) (concat ((file a s) .body)) hn (record { j = j; i = i; reader = o; pos = refl; bytes = refl }) (request (y .tab) n b)))
         where
-          by : (s j i : ℕ) (ψ : Fate) → answers flex y n b ≡ reply ψ → gave flex y n b ≡ gives ψ → Fetched a n s (had j i) (concat ((file a s) .body)) ψ
+          by : (s j i : ℕ) (ψ : Fate) → answers flex y n b ≡ reply ψ → gave flex y n b ≡ gives ψ
+              → Fetched a n s (had j i) (concat ((file a s) .body)) ψ
               → (answers flex y n b ≡ pick (eqb (length (ahead a (reading s j i))) 0) 8 0) × (gave flex y n b ≡ getD (ahead a (reading s j i)) 0 0)
           by s j i ψ an gv (byte v a′ h k u) =
               let l = length-drop (had j i) (concat ((file a s) .body)) in (
