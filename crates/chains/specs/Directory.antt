@@ -303,7 +303,8 @@ placed-spot M S z img ds d g s o w tab p e =
     let hi = w .high in
     let pl = w .place in
     let ro = w .row in
-    let b : (i : ℕ) → i < 3 → getD tab (p + i) 0 ≡ getD (0 ∷ (o / 256 + 1) % 256 ∷ o % 256 ∷ []) i 0 = λ i h. sym (part-at tab p 3 i h) ∙ ap (λ (l : List ℕ). getD l i 0) e in
+    let b : (i : ℕ) → i < 3 → getD tab (p + i) 0 ≡ getD (0 ∷ (o / 256 + 1) % 256 ∷ o % 256 ∷ []) i 0 =
+    λ i h. sym (part-at tab p 3 i h) ∙ ap (λ (l : List ℕ). getD l i 0) e in
     let b0 : getD tab p 0 ≡ 0 = ap (λ (x : ℕ). getD tab x 0) (omega arith) ∙ b 0 (omega arith) in
     let v = spot-sector S ds s o w in
     let b1 : getD tab (p + 1) 0 ≡ w .k + 1 = b 1 (omega arith) ∙ ap (λ (x : ℕ). (x + 1) % 256) (v .0) ∙ omega (arith, z .most-sectors) in

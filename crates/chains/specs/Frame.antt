@@ -52,7 +52,8 @@ module _ (S : ℕ) (s5 : 5 ≤ S) (ds : List ℕ) (d : Listing S ds) (s : ℕ) (
       → 256 * j + i < placeAt t + length (bytesOf t) → ⊥
   off-link ks t j i a b c (in-record vs l) = λ x y. omega arith
   off-link ks t j i a b c (in-sector k h vs l n e) = λ x y. omega arith
-  off-link ks t j i a b c (in-slot k h vs l e) = λ u v. below (w .k) j (16 + 24 * w .i) i (omega arith) (omega (arith, w .row)) c (omega (arith, w .place)) (omega (arith, w .place))
+  off-link ks t j i a b c (in-slot k h vs l e) =
+      λ u v. below (w .k) j (16 + 24 * w .i) i (omega arith) (omega (arith, w .row)) c (omega (arith, w .place)) (omega (arith, w .place))
   off-link ks t j i a b c (of-nothing k u) = λ x y. omega arith
 
   off-slot : (ks : List ℕ) (t : Store) (s′ i : ℕ) → s′ < length (slotsOf ds) → s′ ≢ s → i < 24 → Lies S ks o t

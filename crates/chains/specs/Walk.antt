@@ -118,7 +118,8 @@ module _ (M S : ℕ) (z : Shape M S) (m : List ℕ) where
   chain-complete p l g b c =
       let w = runs l 0 g (c .seg) in
       let e : chainAt S m p ≡ l = ap₂ (walk S m) (c .size) (c .start) ∙ w .0 in
-      let r : runsOut m M S (adr S (lastOf l 0)) (length l) 0 (adr S (first l 0)) ≡ true = subst (λ (x : ℕ). runsOut m M S (adr S (lastOf l 0)) (length l) x (adr S (first l 0)) ≡ true) (adr-zero S) (w .1) in
+      let r : runsOut m M S (adr S (lastOf l 0)) (length l) 0 (adr S (first l 0)) ≡ true =
+      subst (λ (x : ℕ). runsOut m M S (adr S (lastOf l 0)) (length l) x (adr S (first l 0)) ≡ true) (adr-zero S) (w .1) in
       (e, rw (c .size, c .start, c .end, le-leb (length l) (M * S) b) r)
 
 -- ---- each once

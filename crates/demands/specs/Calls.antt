@@ -56,10 +56,12 @@ module _ (M S : ℕ) (z : Shape M S) (ds : List ℕ) (d : Listing S ds) (img tab
   transfer-meets closed e h = absurd-bool h refl
   transfer-meets (listing p) e h = absurd-bool h refl
   transfer-meets (reading s j i) e h =
-      let k : Reading S (slotsOf ds) tab n (getD (a .slots) s noFile) s j i = subst (λ (x : Block). Keeps S (slotsOf ds) tab n (a .slots) x) e (r .keeps n hn) in
+      let k : Reading S (slotsOf ds) tab n (getD (a .slots) s noFile) s j i =
+      subst (λ (x : Block). Keeps S (slotsOf ds) tab n (a .slots) x) e (r .keeps n hn) in
       rw (k .act) (read-meets M S z ds d img tab a r n hn s j i e q)
   transfer-meets (writing s ub) e h =
-      let k : Writing S (slotsOf ds) tab n (getD (a .slots) s noFile) s ub = subst (λ (x : Block). Keeps S (slotsOf ds) tab n (a .slots) x) e (r .keeps n hn) in
+      let k : Writing S (slotsOf ds) tab n (getD (a .slots) s noFile) s ub =
+      subst (λ (x : Block). Keeps S (slotsOf ds) tab n (a .slots) x) e (r .keeps n hn) in
       rw (k .act) (write-meets M S z ds d img tab a r n hn q s ub e)
 
   shut-meets : (o : Block) → getD (a .blocks) n closed ≡ o → fits 4 (activity o) ≡ true
@@ -112,7 +114,8 @@ module _ (M S : ℕ) (z : Shape M S) (ds : List ℕ) (d : Listing S ds) (img tab
 
   misfit-pos : (code act : ℕ) → misfit code act ≢ 0
   unfolding misfit
-  misfit-pos code act = pick-cases (λ (x : ℕ). x ≢ 0) (eqb code 4) _ _ (λ h. pick-cases (λ (x : ℕ). x ≢ 0) (eqb act 0) 13 18 (λ h. omega arith) (λ h. omega arith)) (λ h. omega arith)
+  misfit-pos code act =
+      pick-cases (λ (x : ℕ). x ≢ 0) (eqb code 4) _ _ (λ h. pick-cases (λ (x : ℕ). x ≢ 0) (eqb act 0) 13 18 (λ h. omega arith) (λ h. omega arith)) (λ h. omega arith)
 
   asked-meets : Meets M S ds img tab n (asked img tab (320 * n) b) (fate M S a n q)
   unfolding asked checked fate

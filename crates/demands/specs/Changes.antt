@@ -83,7 +83,8 @@ module _ (M S : ℕ) (a : Ledger) (n : ℕ) (q : Request) where
   change-transfer : q .code ≢ 13 → (o : Block) → block a n ≡ o → C (transferred M S a n q o)
   change-transfer ne closed e = tt
   change-transfer ne (listing p) e = tt
-  change-transfer ne (reading s j i) e = pick-all C (eqb i 0) _ _ (pick-all C (ltb j (length ((file a s) .secs))) _ _ (turned ne _ (λ t h. absurd (omega arith))) tt) (turned ne _ (λ t h. absurd (omega arith)))
+  change-transfer ne (reading s j i) e =
+      pick-all C (eqb i 0) _ _ (pick-all C (ltb j (length ((file a s) .secs))) _ _ (turned ne _ (λ t h. absurd (omega arith))) tt) (turned ne _ (λ t h. absurd (omega arith)))
   change-transfer ne (writing s ub) e =
       pick-all C (eqb (length ub) 0) _ _ (change-taken ne s ub (a .free) e) (pick-all C (eqb (length ub) 251) _ _ (worked ne s ub (a .free) _ _ e refl (λ t h. ap writes e ∙ h)) (turned ne _ (λ t h. ap writes e ∙ h)))
 
@@ -146,7 +147,8 @@ module _ (M S : ℕ) (a : Ledger) (n : ℕ) (q : Request) where
           (onSought y (granted 0 (onFile a (a .free) s (withName (file a s) (q .rename)) n (block a n))) (λ t. denied 3)))))
       go h nowhere e y f = tt
       go h (slot s) e (slot t) f = pick-all C (busy true s (a .blocks) 8) _ _ tt (pick-all C (writeProtected (attributes a s)) _ _ tt tt)
-      go h (slot s) e nowhere f = pick-cases C (busy true s (a .blocks) 8) _ _ (λ k. tt) (λ k. pick-all C (writeProtected (attributes a s)) _ _ tt (retitled s c e k h f))
+      go h (slot s) e nowhere f =
+          pick-cases C (busy true s (a .blocks) 8) _ _ (λ k. tt) (λ k. pick-all C (writeProtected (attributes a s)) _ _ tt (retitled s c e k h f))
 
   not13 : (k : ℕ) → eqb (q .code) k ≡ true → k ≢ 13 → q .code ≢ 13
   not13 k h ne e = ne (sym (eqb-true (q .code) k h) ∙ e)

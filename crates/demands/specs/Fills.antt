@@ -166,7 +166,8 @@ module _ (M S : ℕ) (z : Shape M S) (ds : List ℕ) (d : Listing S ds) (img tab
 
           pub write-in : Agrees M S ds img tab′ (onBlock a n (writing s (ub ++ b ∷ [])))
           unfolding one
-          write-in = on-block M S z ds d img tab a r n hn tab′ (writing s (ub ++ b ∷ [])) (turned tab n ps (omega arith)) (ap opens (sym e)) (ap writes (sym e)) write-now
+          write-in =
+              on-block M S z ds d img tab a r n hn tab′ (writing s (ub ++ b ∷ [])) (turned tab n ps (omega arith)) (ap opens (sym e)) (ap writes (sym e)) write-now
 
       -- ---- the byte at index 255
       abbrev fs : ℕ → List Put
@@ -261,8 +262,10 @@ module _ (M S : ℕ) (z : Shape M S) (ds : List ℕ) (d : Listing S ds) (img tab
         let k : Listed (slotsOf ds) tab n p = subst (λ (b : Block). Keeps S (slotsOf ds) tab n (a .slots) b) e (r .keeps n hn) in
         rw (k .act) (refl, shut-step)
     close-meets q (reading s j i) e ne =
-        let k : Reading S (slotsOf ds) tab n (getD (a .slots) s noFile) s j i = subst (λ (b : Block). Keeps S (slotsOf ds) tab n (a .slots) b) e (r .keeps n hn) in
+        let k : Reading S (slotsOf ds) tab n (getD (a .slots) s noFile) s j i =
+        subst (λ (b : Block). Keeps S (slotsOf ds) tab n (a .slots) b) e (r .keeps n hn) in
         rw (k .act) (refl, shut-step)
     close-meets q (writing s ub) e ne =
-        let k : Writing S (slotsOf ds) tab n (getD (a .slots) s noFile) s ub = subst (λ (b : Block). Keeps S (slotsOf ds) tab n (a .slots) b) e (r .keeps n hn) in
+        let k : Writing S (slotsOf ds) tab n (getD (a .slots) s noFile) s ub =
+        subst (λ (b : Block). Keeps S (slotsOf ds) tab n (a .slots) b) e (r .keeps n hn) in
         rw (k .act) (close-writing q s ub e)

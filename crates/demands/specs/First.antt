@@ -22,7 +22,8 @@ refused img tab n b h = call-lawful img tab n b .refused h
 surveyed : (img xs ys : List ℕ)
     → Surveyed img (dataSectors img) 65535 (listed img (perTrack img)) (owners img (perTrack img)) xs ys
     (surveyAnswer (census img xs ys)) (surveyFirst (census img xs ys)) (surveySecond (census img xs ys))
-surveyed img xs ys = census-is img xs ys (surveyAnswer (census img xs ys)) (surveyFirst (census img xs ys)) (surveySecond (census img xs ys)) (parts (census img xs ys))
+surveyed img xs ys =
+    census-is img xs ys (surveyAnswer (census img xs ys)) (surveyFirst (census img xs ys)) (surveySecond (census img xs ys)) (parts (census img xs ys))
   where
     parts : (y : Survey) → y ≡ survey (surveyAnswer y) (surveyFirst y) (surveySecond y)
     parts (survey a us ws) = refl

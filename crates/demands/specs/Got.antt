@@ -131,7 +131,8 @@ module _ (M S : ℕ) (z : Shape M S) (ds : List ℕ) (d : Listing S ds) where
           go : Dec (m < 8) → Dec (answers flex x m b ≡ 0) → At (then M S a e) n s p c
           go h (no q) = subst (λ (y : Ledger). At y n s p c) (sym (still M S z ds d x a g m b q)) t
           go (no h) (yes q) = absurd (beyond M S z ds d x a g m b (omega arith) q)
-          go (yes h) (yes q) = rw (eq-eqb (answers flex x m b) 0 q) (by (fate M S a m (request (x .tab) m b)) (changes M S a m (request (x .tab) m b)))
+          go (yes h) (yes q) =
+              rw (eq-eqb (answers flex x m b) 0 q) (by (fate M S a m (request (x .tab) m b)) (changes M S a m (request (x .tab) m b)))
             where
               by : (φ : Fate) → Changes a m (request (x .tab) m b) φ → At (after a φ) n s p c
               by (denied v) k = t
@@ -143,7 +144,8 @@ module _ (M S : ℕ) (z : Shape M S) (ds : List ℕ) (d : Listing S ds) where
       own-call q k =
           let hm : m < 8 = omega arith in
           let bm : block a m ≡ reading s (t .j) (t .i) = ap (block a) q ∙ t .reader in
-          let rd : Reading S (slotsOf ds) (x .tab) m (file a s) s (t .j) (t .i) = subst (λ (y : Block). Keeps S (slotsOf ds) (x .tab) m (a .slots) y) bm (g .agrees .keeps m hm) in
+          let rd : Reading S (slotsOf ds) (x .tab) m (file a s) s (t .j) (t .i) =
+          subst (λ (y : Block). Keeps S (slotsOf ds) (x .tab) m (a .slots) y) bm (g .agrees .keeps m hm) in
           let φ : fate M S a m (request (x .tab) m b) ≡ transferred M S a m (request (x .tab) m b) (reading s (t .j) (t .i)) =
           fate-zero M S a m (request (x .tab) m b) (reading s (t .j) (t .i)) k (rd .drive) bm fits-one in
           let st = step M S z ds d x a g m b hm in

@@ -85,7 +85,8 @@ module _ (M S : ℕ) (z : Shape M S) (ds : List ℕ) (d : Listing S ds) (img tab
       go true e =
           let w = spot S ds d s hs in
           let v = spot-sector S ds s (getD (slotsOf ds) s 0) w in
-          let q : (getD (slotsOf ds) s 0 / 256 + 1) % 256 ≡ 0 = ap (λ (l : List ℕ). getD l 1 0) (same-eq (placeOf (getD (slotsOf ds) s 0)) (zeros 3) e) in
+          let q : (getD (slotsOf ds) s 0 / 256 + 1) % 256 ≡ 0 =
+          ap (λ (l : List ℕ). getD l 1 0) (same-eq (placeOf (getD (slotsOf ds) s 0)) (zeros 3) e) in
           let q2 : (w .k + 1) % 256 ≡ 0 = sym (ap (λ (x : ℕ). (x + 1) % 256) (v .0)) ∙ q in
           absurd (omega (arith, q2, w .low, w .high, z .most-sectors))
 
@@ -110,7 +111,8 @@ module _ (M S : ℕ) (z : Shape M S) (ds : List ℕ) (d : Listing S ds) (img tab
       go k (yes h) =
           rw (lt-ltb (s + 1) (length (slotsOf ds)) h, lt-ltb (suc s) (length (a .slots)) (omega (arith, r .ns)))
           (subst (λ (x : ℕ). Meets M S ds img tab n (shown img (getD (slotsOf ds) x 0)) (granted 0 (onBlock a n (listing (suc (suc s)))))) (omega arith) (show-meets (suc s) (k .act) (omega arith)))
-      go k (no h) = rw (le-ltb (s + 1) (length (slotsOf ds)) (omega arith), le-ltb (suc s) (length (a .slots)) (omega (arith, r .ns))) (refl, omega arith)
+      go k (no h) =
+          rw (le-ltb (s + 1) (length (slotsOf ds)) (omega arith), le-ltb (suc s) (length (a .slots)) (omega (arith, r .ns))) (refl, omega arith)
 
   -- ---- 9
   pub read-sector-meets : (b : ℕ) → opens (getD (a .blocks) n closed) ≡ 0

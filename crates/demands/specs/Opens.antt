@@ -34,7 +34,8 @@ use Rattle.demands.specs.Marks.{slot-at, slot-frame, slot-free}
 -- ---- a legal name is live
 letter-live : (x : ℕ) → isLetter x ≡ true → pick (eqb x 0) false (pick (leb 128 x) false true) ≡ true
 unfolding isLetter
-letter-live x h = either (within 65 90 x) (within 97 122 x) h (λ e. now 65 90 (omega arith) (omega arith) e) (λ e. now 97 122 (omega arith) (omega arith) e)
+letter-live x h =
+    either (within 65 90 x) (within 97 122 x) h (λ e. now 65 90 (omega arith) (omega arith) e) (λ e. now 97 122 (omega arith) (omega arith) e)
   where
     now : (lo hi : ℕ) → 1 ≤ lo → hi < 128 → within lo hi x ≡ true → pick (eqb x 0) false (pick (leb 128 x) false true) ≡ true
     now lo hi a b e = let w = within-is lo hi x e in rw (ne-eqb x 0 (omega arith), lt-leb 128 x (omega arith)) refl
@@ -81,11 +82,13 @@ module _ (M S : ℕ) (z : Shape M S) (ds : List ℕ) (d : Listing S ds) (img tab
   open-drive = puts-clear ps tab (320 * n) 3 (omega (arith, length-zeros 6))
 
   open-pos : t2 tab′ n 30 ≡ 0
-  open-pos = word-put tab′ (320 * n + 30) 0 (omega arith) (open-zero 30 (omega arith) (omega arith)) (ap (λ (p : ℕ). getD tab′ p 0) (omega arith) ∙ open-zero 31 (omega arith) (omega arith))
+  open-pos =
+      word-put tab′ (320 * n + 30) 0 (omega arith) (open-zero 30 (omega arith) (omega arith)) (ap (λ (p : ℕ). getD tab′ p 0) (omega arith) ∙ open-zero 31 (omega arith) (omega arith))
 
   open-place : tp tab′ n ≡ placeOf o
   unfolding one placeOf
-  open-place = part-is tab′ (320 * n + 47) 3 (placeOf o) refl (λ i b. ap (λ (p : ℕ). getD tab′ p 0) (omega arith) ∙ at 4 i (47 + i) (omega arith) b refl (omega arith) (omega arith))
+  open-place =
+      part-is tab′ (320 * n + 47) 3 (placeOf o) refl (λ i b. ap (λ (p : ℕ). getD tab′ p 0) (omega arith) ∙ at 4 i (47 + i) (omega arith) b refl (omega arith) (omega arith))
 
 -- a word of a part
 word-part : (m : List ℕ) (p n i : ℕ) → i + 1 < n → wordAt (part m p n) i ≡ wordAt m (p + i)
@@ -181,7 +184,8 @@ module _ (M S : ℕ) (z : Shape M S) (ds : List ℕ) (d : Listing S ds) (img tab
       ∙ ap (λ (x : ℕ). getD (zeros 10 ++ date) (x + i) 0) (sym (length-zeros 10)) ∙ getD-append-add (zeros 10) date i 0
 
   zero-word : (i : ℕ) → i < 9 → wordAt ne (11 + i) ≡ 0
-  zero-word i b = word-put ne (11 + i) 0 (omega arith) (entry-zero i (omega arith)) (ap (λ (x : ℕ). getD ne x 0) (omega arith) ∙ entry-zero (i + 1) (omega arith))
+  zero-word i b =
+      word-put ne (11 + i) 0 (omega arith) (entry-zero i (omega arith)) (ap (λ (x : ℕ). getD ne x 0) (omega arith) ∙ entry-zero (i + 1) (omega arith))
 
   module _ (s : ℕ) (hs : s < length (slotsOf ds)) (dead : live ((getD (a .slots) s noFile) .name) 0 ≡ false) (alive : live nm 0 ≡ true) where
     abbrev p : ℕ

@@ -78,7 +78,8 @@ module _ (M S : ℕ) (z : Shape M S) (ds : List ℕ) (d : Listing S ds) (img tab
     }
 
     gave-step : Agrees M S ds img (puts tab (320 * n) gave) (onBlock a n (reading s j ((i + 1) % 256)))
-    gave-step = on-block M S z ds d img tab a r n hn (puts tab (320 * n) gave) (reading s j ((i + 1) % 256)) (turned tab n gave (omega (arith, length-one ((i + 1) % 256)))) (ap opens (sym e)) (ap writes (sym e)) gave-now
+    gave-step =
+        on-block M S z ds d img tab a r n hn (puts tab (320 * n) gave) (reading s j ((i + 1) % 256)) (turned tab n gave (omega (arith, length-one ((i + 1) % 256)))) (ap opens (sym e)) (ap writes (sym e)) gave-now
 
     gave-byte : getD tab (320 * n + (64 + i)) 0 ≡ getD (getD (f .body) (j - 1) []) (i - 4) 0
     gave-byte = ap (λ (q : ℕ). tb tab n q) (omega (arith, wi)) ∙ w .buffer h (i - 4) (omega (arith, wi))
@@ -171,7 +172,8 @@ module _ (M S : ℕ) (z : Shape M S) (ds : List ℕ) (d : Listing S ds) (img tab
 
     load-step : Agrees M S ds img tab′ (onBlock a n (reading s (suc j) 5))
     unfolding two one
-    load-step = on-block M S z ds d img tab a r n hn tab′ (reading s (suc j) 5) (turned tab n ps (omega (arith, l2, l256))) (ap opens (sym e)) (ap writes (sym e)) load-now
+    load-step =
+        on-block M S z ds d img tab a r n hn tab′ (reading s (suc j) 5) (turned tab n ps (omega (arith, l2, l256))) (ap opens (sym e)) (ap writes (sym e)) load-now
 
     load-byte : getD img (256 * k + 4) 0 ≡ getD (getD (f .body) j []) 0 0
     load-byte = ap (λ (p : ℕ). getD img p 0) (omega arith) ∙ data252 0 (omega arith)

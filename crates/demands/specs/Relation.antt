@@ -141,7 +141,8 @@ rest-place tab tab′ n r = tp-same tab tab′ n (λ i h. r i (omega (arith, h))
 pub keeps-same : (S : ℕ) (os tab tab′ : List ℕ) (n : ℕ) (fs fs′ : List File) (b : Block) → Rest tab tab′ n
     → (1 ≤ opens b → (s : ℕ) → suc s ≡ opens b → getD fs′ s noFile ≡ getD fs s noFile) → Keeps S os tab n fs b → Keeps S os tab′ n fs′ b
 keeps-same S os tab tab′ n fs fs′ closed r e k = r 2 (omega arith) ∙ k
-keeps-same S os tab tab′ n fs fs′ (listing p) r e k = record { act = r 2 (omega arith) ∙ k .act; shown = k .shown; place = rest-place tab tab′ n r ∙ k .place }
+keeps-same S os tab tab′ n fs fs′ (listing p) r e k =
+    record { act = r 2 (omega arith) ∙ k .act; shown = k .shown; place = rest-place tab tab′ n r ∙ k .place }
 keeps-same S os tab tab′ n fs fs′ (reading s j i) r e k =
     let t : Reading S os tab′ n (getD fs s noFile) s j i = record {
       act = r 2 (omega arith) ∙ k .act;

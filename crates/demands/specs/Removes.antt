@@ -113,7 +113,8 @@ module _ (M S : ℕ) (z : Shape M S) (ds : List ℕ) (d : Listing S ds) (img tab
     unfolding six two one
     link-is q =
         let t : lk ≡ two (adr S (first l 0)) = rw (ne-eqb (length fr) 0 (omega arith)) refl in
-        let b : 256 * lastOf fr 0 + 256 ≤ length img = fits M S z ds d img tab a r (lastOf fr 0) (last-data M S z fr (free-data M S z ds d img tab a r) q .1) in
+        let b : 256 * lastOf fr 0 + 256 ≤ length img =
+        fits M S z ds d img tab a r (lastOf fr 0) (last-data M S z fr (free-data M S z ds d img tab a r) q .1) in
         let t2 : length lk ≡ 2 = ap length t in
         word-put img′ (256 * lastOf fr 0) (adr S (first l 0)) (sector-small M S z (first l 0) (l-data (first l 0) (first-in l 0 some)))
         (stored-at hangS img 0 0 (256 * lastOf fr 0) (omega arith) (omega arith) (omega arith) (omega arith) (omega (arith, ql q, z .sectors, ohigh)) ∙ ap (λ (x : List ℕ). getD x 0 0) t)
@@ -155,7 +156,8 @@ module _ (M S : ℕ) (z : Shape M S) (ds : List ℕ) (d : Listing S ds) (img tab
       where
         go : (fr : List ℕ) → AllData M S fr → pick (eqb (length fr) 0) true (isData M S (adr S (lastOf fr 0))) ≡ true
         go [] g = refl
-        go (x ∷ fr) g = rw (ne-eqb (suc (length fr)) 0 (omega arith)) (sector-data M S z (lastOf (x ∷ fr) 0) (last-data M S z (x ∷ fr) g (omega arith)))
+        go (x ∷ fr) g =
+            rw (ne-eqb (suc (length fr)) 0 (omega arith)) (sector-data M S z (lastOf (x ∷ fr) 0) (last-data M S z (x ∷ fr) g (omega arith)))
 
     head-eq : pick (eqb (length fr) 0) (adr S (first l 0)) (adr S (first fr 0)) ≡ adr S (first (fr ++ l) 0)
     head-eq = go fr

@@ -92,7 +92,8 @@ module _ (M S : ℕ) (z : Shape M S) (ds : List ℕ) (d : Listing S ds) where
       where
         image-same : Agrees M S ds (stored (x .img) (onImage (preset (x .tab) n i v))) (puts (x .tab) (320 * n) (onBlock (preset (x .tab) n i v))) a
             → Agrees M S ds (x .img) (puts (x .tab) (320 * n) (onBlock (preset (x .tab) n i v))) a
-        image-same g = subst (λ (m : List ℕ). Agrees M S ds m (puts (x .tab) (320 * n) (onBlock (preset (x .tab) n i v))) a) (preset-image (x .img) (x .tab) n i v) g
+        image-same g =
+            subst (λ (m : List ℕ). Agrees M S ds m (puts (x .tab) (320 * n) (onBlock (preset (x .tab) n i v))) a) (preset-image (x .img) (x .tab) n i v) g
 
     pub extend-step : (n c : ℕ) → Fine M S ds (next flex x (extending n c)) a
     unfolding next
@@ -100,7 +101,8 @@ module _ (M S : ℕ) (z : Shape M S) (ds : List ℕ) (d : Listing S ds) where
       where
         image-same : Agrees M S ds (stored (x .img) (onImage (extension (x .tab) n c))) (puts (x .tab) (320 * n) (onBlock (extension (x .tab) n c))) a
             → Agrees M S ds (x .img) (puts (x .tab) (320 * n) (onBlock (extension (x .tab) n c))) a
-        image-same g = subst (λ (m : List ℕ). Agrees M S ds m (puts (x .tab) (320 * n) (onBlock (extension (x .tab) n c))) a) (extension-image (x .img) (x .tab) n c) g
+        image-same g =
+            subst (λ (m : List ℕ). Agrees M S ds m (puts (x .tab) (320 * n) (onBlock (extension (x .tab) n c))) a) (extension-image (x .img) (x .tab) n c) g
 
     -- one call
     module _ (n b : ℕ) where

@@ -143,7 +143,8 @@ seek-found cls (f ∷ fs) s h = go (cls (f .name)) refl (seek cls fs) refl h (λ
     go Hit e x y h ih = subst (λ (t : ℕ). Sat cls (f ∷ fs) t) (slot-same 0 s h) (record { low = omega arith; hit = e })
     go Stop e x y h ih = absurd (slot-not s h)
     go Pass e nowhere y h ih = absurd (slot-not s h)
-    go Pass e (slot t) y h ih = subst (λ (t : ℕ). Sat cls (f ∷ fs) t) (slot-same (suc t) s h) (let p = ih t y in record { low = omega (arith, p .low); hit = p .hit })
+    go Pass e (slot t) y h ih =
+        subst (λ (t : ℕ). Sat cls (f ∷ fs) t) (slot-same (suc t) s h) (let p = ih t y in record { low = omega (arith, p .low); hit = p .hit })
 
 -- ---- of a ledger that image and table agree with
 

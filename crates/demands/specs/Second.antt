@@ -127,7 +127,8 @@ module _ (M S : ℕ) (z : Shape M S) (ds : List ℕ) (d : Listing S ds) where
     opened : fate M S a m q ≡ granted 0 (onBlock a m (reading s 0 0))
     unfolding performed served within openedToRead
     opened =
-        let fd : fileNamed (part (x .tab) (320 * m + 4) 11) (a .slots) ≡ slot s = ap (λ (y : List ℕ). fileNamed y (a .slots)) nm ∙ found a (g .tidy) s f r in
+        let fd : fileNamed (part (x .tab) (320 * m + 4) 11) (a .slots) ≡ slot s =
+        ap (λ (y : List ℕ). fileNamed y (a .slots)) nm ∙ found a (g .tidy) s f r in
         let lg : legal (part (x .tab) (320 * m + 4) 11) 0 ≡ true = ap (λ (y : List ℕ). legal y 0) nm ∙ ok in
         fate-of M S a m q 1 (k .function) refl (k .drive) (fits-idle 1 (activity (block a m)) refl i)
         ∙ (rw (k .function, lg, fd, quiet-free (a .blocks) s 8 (r .quiet)) refl)
@@ -136,7 +137,8 @@ module _ (M S : ℕ) (z : Shape M S) (ds : List ℕ) (d : Listing S ds) where
     read-back =
         let st = step M S z ds d x a g m b (k .block) in
         let a1 = onBlock a m (reading s 0 0) in
-        let g1 : Fine M S ds (next flex x (asking m b)) a1 = subst (λ (φ : Fate). Fine M S ds (next flex x (asking m b)) (after a φ)) opened (st .fine) in
+        let g1 : Fine M S ds (next flex x (asking m b)) a1 =
+        subst (λ (φ : Fate). Fine M S ds (next flex x (asking m b)) (after a φ)) opened (st .fine) in
         record {
           opens = st .ans ∙ ap reply opened;
           reads = λ cs op. reads M S z ds d cs (next flex x (asking m b)) a1 g1 m s 0 (concat (f .body)) (k .block)
@@ -175,7 +177,8 @@ module _ (M S : ℕ) (z : Shape M S) (ds : List ℕ) (d : Listing S ds) where
     quiet-now m hm q = go (ℕ-discrete m n)
       where
         go : Dec (m ≡ n) → ⊥
-        go (yes e) = omega (arith, q, ap writes (ap (λ (k : ℕ). getD (set (a .blocks) n closed) k closed) e ∙ getD-set-same (a .blocks) n closed closed (omega (arith, g .agrees .nb))))
+        go (yes e) =
+            omega (arith, q, ap writes (ap (λ (k : ℕ). getD (set (a .blocks) n closed) k closed) e ∙ getD-set-same (a .blocks) n closed closed (omega (arith, g .agrees .nb))))
         go (no e) =
             let y : writes (getD (a .blocks) m closed) ≡ suc s = ap writes (sym (getD-set-other (a .blocks) n m closed closed e)) ∙ q in
             nobody M S z ds d (x .img) (x .tab) a (g .agrees) n hn s (w .left) (w .writer) m hm e (sym (writes-opens (getD (a .blocks) m closed) (omega (arith, y))) ∙ y)
@@ -232,7 +235,8 @@ module _ (M S : ℕ) (z : Shape M S) (ds : List ℕ) (d : Listing S ds) where
     closed-with ok =
         let st = step M S z ds d x a g n b hn in
         let sh = subst Shut (sym close-fate) shut-fate in
-        let g1 : Fine M S ds (next flex x (asking n b)) (sh .a′) = subst (λ (φ : Fate). Fine M S ds (next flex x (asking n b)) (after a φ)) (sh .is) (st .fine) in
+        let g1 : Fine M S ds (next flex x (asking n b)) (sh .a′) =
+        subst (λ (φ : Fate). Fine M S ds (next flex x (asking n b)) (after a φ)) (sh .is) (st .fine) in
         let al : ledgerAfter flex M S x a n b ≡ sh .a′ = ledger-after x a (sh .a′) n b 0 (sh .is) (st .ans ∙ ap reply (sh .is)) in
         record {
           closes = st .ans ∙ ap reply (sh .is);
@@ -240,7 +244,8 @@ module _ (M S : ℕ) (z : Shape M S) (ds : List ℕ) (d : Listing S ds) where
               let x1 = next flex x (asking n b) in
               let nm′ = nameThen nm (log flex x1 cs) in
               let fn : nameThen (sh .f .name) (log flex x1 cs) ≡ nm′ = ap (λ (y : List ℕ). nameThen y (log flex x1 cs)) (sh .name) in
-              let rs = rests M S z ds d cs x1 (sh .a′) g1 s (sh .f) (sh .at-rest) (subst (λ (y : List ℕ). Survives y (log flex x1 cs)) (sym (sh .name)) sv) in
+              let rs =
+              rests M S z ds d cs x1 (sh .a′) g1 s (sh .f) (sh .at-rest) (subst (λ (y : List ℕ). Survives y (log flex x1 cs)) (sym (sh .name)) sv) in
               let rs2 : Rests (history M S (sh .a′) (log flex x1 cs)) s (withName (sh .f) nm′) =
               subst (λ (y : List ℕ). Rests (history M S (sh .a′) (log flex x1 cs)) s (withName (sh .f) y)) fn rs in
               subst (λ (l : List ℕ). ReadBack flex M S (run flex x1 cs) l m c) (sh .bytes)
@@ -310,7 +315,8 @@ module _ (M S : ℕ) (z : Shape M S) (ds : List ℕ) (d : Listing S ds) where
         size-is : (y : Machine) (h : Ledger) → Fine M S ds y h → (sent : List ℕ) → Wrote h n s (nameIn x n) sent
             → sizeAt (y .img) o ≡ (length sent + 251) / 252
         size-is y h g2 sent w =
-            let wr : Writing S (slotsOf ds) (y .tab) n (file h s) s (w .left) = subst (λ (v : Block). Keeps S (slotsOf ds) (y .tab) n (h .slots) v) (w .writer) (g2 .agrees .keeps n (k .block)) in
+            let wr : Writing S (slotsOf ds) (y .tab) n (file h s) s (w .left) =
+            subst (λ (v : Block). Keeps S (slotsOf ds) (y .tab) n (h .slots) v) (w .writer) (g2 .agrees .keeps n (k .block)) in
             let c = g2 .agrees .holds s (wr .slot) .chain (wr .alive) in
             let e : wordAt (y .img) (o + 17) ≡ length ((file h s) .secs) = ap (wordAt (y .img)) (omega arith) ∙ c .size in
             e ∙ sym (count wr (ℕ-discrete (length (w .left)) 0))
@@ -318,7 +324,8 @@ module _ (M S : ℕ) (z : Shape M S) (ds : List ℕ) (d : Listing S ds) where
             count : Writing S (slotsOf ds) (y .tab) n (file h s) s (w .left) → Dec (length (w .left) ≡ 0)
                 → (length sent + 251) / 252 ≡ length ((file h s) .secs)
             count wr (yes q) = sectors-whole (length sent) (length ((file h s) .secs)) (w .whole q) .0
-            count wr (no q) = sectors-part (length sent) (length ((file h s) .secs)) (length (w .left)) (w .part (omega arith)) (omega arith) (wr .short) .0
+            count wr (no q) =
+                sectors-part (length sent) (length ((file h s) .secs)) (length (w .left)) (w .part (omega arith)) (omega arith) (wr .short) .0
 
 -- ---- the demand
 
@@ -340,7 +347,8 @@ module _ (x : Machine) (st : Start x) (cs : List Call) where
   unfolding preset presetIn
   preset-done n i v hn p h =
       let q = offset-is i p in
-      let act : idle (getD (x0 .tab) (320 * n + 2) 0) ≡ true = ap idle (activity-is (perOf x) (slotsOf ds) (x0 .tab) n (a0 .slots) (block a0 n) (fine .agrees .keeps n hn)) ∙ h in
+      let act : idle (getD (x0 .tab) (320 * n + 2) 0) ≡ true =
+      ap idle (activity-is (perOf x) (slotsOf ds) (x0 .tab) n (a0 .slots) (block a0 n) (fine .agrees .keeps n hn)) ∙ h in
       rw (eq-eqb (length (x0 .tab)) 2560 (fine .agrees .tlen), lt-ltb n 8 hn, ne-eqb i 0 (omega (arith, q .low)), p, act) refl
 
   function-done : (n v : ℕ) → n < 8 → flex .preset (x0 .tab) n 0 v ≡ replied 0 (over (x0 .tab) (320 * n + 0) (one v))

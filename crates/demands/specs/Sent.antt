@@ -261,7 +261,8 @@ module _ (M S : ℕ) (z : Shape M S) (ds : List ℕ) (d : Listing S ds) where
           go : Dec (m < 8) → Dec (answers flex x m b ≡ 0) → Wrote (then M S a e) n s nm (sent ++ [])
           go h (no q) = subst (λ (y : Ledger). Wrote y n s nm (sent ++ [])) (sym (still q)) (kept-by a refl refl)
           go (no h) (yes q) = absurd (beyond (omega arith) q)
-          go (yes h) (yes q) = rw (eq-eqb (answers flex x m b) 0 q) (by (fate M S a m (request (x .tab) m b)) (changes M S a m (request (x .tab) m b)))
+          go (yes h) (yes q) =
+              rw (eq-eqb (answers flex x m b) 0 q) (by (fate M S a m (request (x .tab) m b)) (changes M S a m (request (x .tab) m b)))
             where
               by : (φ : Fate) → Changes a m (request (x .tab) m b) φ → Wrote (after a φ) n s nm (sent ++ [])
               by (denied v) c = kept-by a refl refl
@@ -274,7 +275,8 @@ module _ (M S : ℕ) (z : Shape M S) (ds : List ℕ) (d : Listing S ds) where
       own-call q c =
           let hm : m < 8 = omega arith in
           let bm : block a m ≡ writing s (w .left) = ap (block a) q ∙ w .writer in
-          let wr : Writing S (slotsOf ds) (x .tab) m (file a s) s (w .left) = subst (λ (y : Block). Keeps S (slotsOf ds) (x .tab) m (a .slots) y) bm (g .agrees .keeps m hm) in
+          let wr : Writing S (slotsOf ds) (x .tab) m (file a s) s (w .left) =
+          subst (λ (y : Block). Keeps S (slotsOf ds) (x .tab) m (a .slots) y) bm (g .agrees .keeps m hm) in
           let φ : fate M S a m (request (x .tab) m b) ≡ transferred M S a m (request (x .tab) m b) (writing s (w .left)) =
           fate-zero M S a m (request (x .tab) m b) (writing s (w .left)) c (wr .drive) bm fits-two in
           let st = step M S z ds d x a g m b hm in
@@ -303,8 +305,10 @@ module _ (M S : ℕ) (z : Shape M S) (ds : List ℕ) (d : Listing S ds) where
       → Wrote (history M S a (log flex x cs)) n s nm (sent ++ sentBy n (log flex x cs)) × Accepts flex M S n x a cs
   unfolding log history entry sentBy
   written [] x a g n s nm sent hn w op = (subst (λ (l : List ℕ). Wrote a n s nm l) (sym (append-nil sent)) w, tt)
-  written (setting m i v ∷ cs) x a g n s nm sent hn w op = written cs (next flex x (setting m i v)) a (set-step M S z ds d x a g m i v) n s nm sent hn w op
-  written (extending m c ∷ cs) x a g n s nm sent hn w op = written cs (next flex x (extending m c)) a (extend-step M S z ds d x a g m c) n s nm sent hn w op
+  written (setting m i v ∷ cs) x a g n s nm sent hn w op =
+      written cs (next flex x (setting m i v)) a (set-step M S z ds d x a g m i v) n s nm sent hn w op
+  written (extending m c ∷ cs) x a g n s nm sent hn w op =
+      written cs (next flex x (extending m c)) a (extend-step M S z ds d x a g m c) n s nm sent hn w op
   written (asking m b ∷ cs) x a g n s nm sent hn w op =
       let en = e x a g m b in
       let w1 = wrote-one x a g m b n s nm sent hn w (op .0) in

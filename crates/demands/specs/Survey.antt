@@ -127,7 +127,8 @@ files-right : (M S : ℕ) (img os : List ℕ) → filesRight img M S os ≡ true
 unfolding filesRight fileRight
 files-right M S img [] h i b v = absurd (omega arith)
 files-right M S img (o ∷ os) h zero b v =
-    let p : pick (live img o) (chainRight img M S (startAt img o) (endAt img o) (sizeAt img o)) true ≡ true = both (fileRight img M S o) (filesRight img M S os) h .0 in
+    let p : pick (live img o) (chainRight img M S (startAt img o) (endAt img o) (sizeAt img o)) true ≡ true =
+    both (fileRight img M S o) (filesRight img M S os) h .0 in
     rw v at p
 files-right M S img (o ∷ os) h (suc i) b v = files-right M S img os (both (fileRight img M S o) (filesRight img M S os) h .1) i (omega arith) v
 
@@ -194,7 +195,8 @@ module _ (M S : ℕ) (z : Shape M S) (img : List ℕ) (h : Sized M S img) (small
           subst (λ (f : File). AllData M S (secsOf f)) (sym (files-at S img (slotsOf ds) i c)) (secs-all i c)
 
       go : (c : ℕ) → tally x (chainAt S img 541) ≡ c → (S ≤ x) × (x < (M + 1) * S)
-      go zero e = flat-data M S (filesAt S img (slotsOf ds)) each x (omega (arith, t, e, tally-append x (chainAt S img 541) (flat secsOf (filesAt S img (slotsOf ds)))))
+      go zero e =
+          flat-data M S (filesAt S img (slotsOf ds)) each x (omega (arith, t, e, tally-append x (chainAt S img 541) (flat secsOf (filesAt S img (slotsOf ds)))))
       go (suc c) e = free-sound .1 x (omega (arith, e))
 
   holds-sound : (o : ℕ) → (live img o ≡ true → Chain S img (o + 13) (chainAt S img (o + 13))) → Holds S img o (fileAt S img o)
@@ -244,7 +246,8 @@ module _ (M S : ℕ) (z : Shape M S) (img : List ℕ) (h : Sized M S img) (small
   pub start-tidy : Tidy ((ledgerOf S img) .slots)
   unfolding ledgerOf
   start-tidy =
-      let long : (i : ℕ) → i < length (filesAt S img (slotsOf ds)) → i < length (slotsOf ds) = λ i b. omega (arith, length-files S img (slotsOf ds)) in
+      let long : (i : ℕ) → i < length (filesAt S img (slotsOf ds)) → i < length (slotsOf ds) =
+      λ i b. omega (arith, length-files S img (slotsOf ds)) in
       record {
         long = λ i b. ap length (name-at i (long i b)) ∙ length-part img (getD (slotsOf ds) i 0) 11;
         solid = λ i j a b e. live-name j (long j b) ∙ holed-sound img (slotsOf ds) (sane .no-hole) i j a (long j b)
@@ -317,7 +320,8 @@ module _ (M S : ℕ) (z : Shape M S) (ds : List ℕ) (d : Listing S ds) (img tab
       record {
         right = dr .0;
         no-hole = rw (dr .1) (holed-complete img (slotsOf ds) (λ i j x y e. live-back j y ∙ t .solid i j x (omega (arith, r .ns)) (unused-back i (omega arith) e)));
-        no-twins = rw (dr .1) (twins-complete img (slotsOf ds) (λ i j x y u v w. t .apart i j (omega arith) (omega (arith, r .ns)) (omega (arith, r .ns))
+        no-twins =
+            rw (dr .1) (twins-complete img (slotsOf ds) (λ i j x y u v w. t .apart i j (omega arith) (omega (arith, r .ns)) (omega (arith, r .ns))
             (sym (live-back i (omega arith)) ∙ u) (sym (live-back j y) ∙ v) (sym (r .holds i (omega arith) .name) ∙ w ∙ r .holds j y .name)));
         free = free-back .1;
         files = rw (dr .1) (right-files M S img (slotsOf ds) (λ i b v. record-at M S img (getD (slotsOf ds) i 0) ∙ file-back i b (sym (live-back i b) ∙ v) .1));

@@ -194,17 +194,20 @@ module _ (M S : ℕ) (z : Shape M S) (ds : List ℕ) (d : Listing S ds) (img tab
   unfolding six two
   link-is q =
       let t : lk ≡ two (adr S k) = rw (ne-eqb (length l) 0 (omega arith)) refl in
-      let b : 256 * lastOf l 0 + 256 ≤ length img = fits M S z ds d img tab a r (lastOf l 0) (last-data M S z l (secs-data M S z ds d img tab a r s hs) q .1) in
+      let b : 256 * lastOf l 0 + 256 ≤ length img =
+      fits M S z ds d img tab a r (lastOf l 0) (last-data M S z l (secs-data M S z ds d img tab a r s hs) q .1) in
       let t2 : length lk ≡ 2 = ap length t in
       word-put img′ (256 * lastOf l 0) (adr S k) (sector-small M S z k k-data)
       (stored-at takeS img 2 0 (256 * lastOf l 0) (omega arith) (omega arith) (omega arith) (omega arith) ((λ u v. omega (arith, ql q, ohigh)), tt) ∙ ap (λ (x : List ℕ). getD x 0 0) t)
       (stored-at takeS img 2 1 (256 * lastOf l 0 + 1) (omega arith) (omega arith) (omega arith) (omega arith) ((λ u v. omega (arith, ql q, ohigh)), tt) ∙ ap (λ (x : List ℕ). getD x 1 0) t)
 
   in-slot-kept : (i p : ℕ) → o + i ≡ p → (i < 13) → getD img′ p 0 ≡ getD img p 0
-  in-slot-kept i p q b = keep p (λ u v. omega (arith, olow)) (λ u v. omega (arith, klow, ohigh)) (λ x u v. omega (arith, ql x, ohigh)) (λ u v. omega arith)
+  in-slot-kept i p q b =
+      keep p (λ u v. omega (arith, olow)) (λ u v. omega (arith, klow, ohigh)) (λ x u v. omega (arith, ql x, ohigh)) (λ u v. omega arith)
 
   in-slot-late : (i p : ℕ) → o + i ≡ p → 19 ≤ i → i < 24 → getD img′ p 0 ≡ getD img p 0
-  in-slot-late i p q b b′ = keep p (λ u v. omega (arith, olow)) (λ u v. omega (arith, klow, ohigh)) (λ x u v. omega (arith, ql x, ohigh)) (λ u v. omega arith)
+  in-slot-late i p q b b′ =
+      keep p (λ u v. omega (arith, olow)) (λ u v. omega (arith, klow, ohigh)) (λ x u v. omega (arith, ql x, ohigh)) (λ u v. omega arith)
 
   holds-now : Holds S img′ o grown
   unfolding six
@@ -257,7 +260,9 @@ module _ (M S : ℕ) (z : Shape M S) (ds : List ℕ) (d : Listing S ds) (img tab
     buf : (i : ℕ) → i < 252 → tb tab′ n (68 + i) ≡ getD (b ∷ []) i 0
     unfolding six two one
     buf zero u = at 5 0 (68 + 0) (omega arith) (omega arith) (omega arith) (omega arith) (omega arith)
-    buf (suc i) u = at 1 (4 + suc i) (68 + suc i) (omega arith) (omega (arith, length-fresh (length l + 1))) (omega arith) (omega arith) (omega arith) ∙ fresh-data (length l + 1) (4 + suc i) (omega arith)
+    buf (suc i) u =
+        at 1 (4 + suc i) (68 + suc i) (omega arith) (omega (arith, length-fresh (length l + 1))) (omega arith) (omega arith) (omega arith)
+        ∙ fresh-data (length l + 1) (4 + suc i) (omega arith)
 
     t2-at : (i v : ℕ) → v < 65536 → getD tab′ (320 * n + i) 0 ≡ v / 256 % 256 → getD tab′ (320 * n + (i + 1)) 0 ≡ v % 256 → t2 tab′ n i ≡ v
     t2-at i v g x y = word-put tab′ (320 * n + i) v g x (ap (λ (p : ℕ). getD tab′ p 0) (omega arith) ∙ y)

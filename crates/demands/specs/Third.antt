@@ -75,7 +75,8 @@ module _ (M S : ℕ) (z : Shape M S) (ds : List ℕ) (d : Listing S ds) (y : Mac
       sane-here m s w = rw (m, s) w
 
   pub once-each : (k : ℕ) → k < M * S → count k (ledgerNumbers S a) ≡ 1
-  once-each k h = tally-is k (ledgerNumbers S a) ∙ each-sound (M * S) (ledgerNumbers S a) (once-complete M S (a .free ++ flat secsOf (a .slots)) (r .once)) k h
+  once-each k h =
+      tally-is k (ledgerNumbers S a) ∙ each-sound (M * S) (ledgerNumbers S a) (once-complete M S (a .free ++ flat secsOf (a .slots)) (r .once)) k h
 
   pub no-others : length (ledgerNumbers S a) ≡ M * S
   no-others =
@@ -128,7 +129,8 @@ module _ (M S : ℕ) (z : Shape M S) (ds : List ℕ) (d : Listing S ds) (y : Mac
       let nm : part (y .img) o 11 ≡ g .name = ap (λ (h : File). h .name) p0 in
       let bd : contents (y .img) (sectorsAt S (y .img) o) ≡ g .body = ap (λ (h : File). h .body) p0 in
       let bf : buffered (y .tab) o 8 ≡ pending (a .blocks) k 8 = q 0 (omega arith) ∙ ap (λ (x : ℕ). pending (a .blocks) x 8) (omega arith) in
-      let ih = shown-list os fs (k + 1) (omega arith) (λ i b. p (suc i) (omega arith)) (λ i b. q (suc i) (omega arith) ∙ ap (λ (x : ℕ). pending (a .blocks) x 8) (omega arith)) in
+      let ih =
+      shown-list os fs (k + 1) (omega arith) (λ i b. p (suc i) (omega arith)) (λ i b. q (suc i) (omega arith) ∙ ap (λ (x : ℕ). pending (a .blocks) x 8) (omega arith)) in
       rw (bd, bf, live-at (y .img) (g .name) o nm, nm, ih) refl
 
   pub files-shown : filesOn S (y .img) (y .tab) (slots (y .img) S) ≡ shown a
@@ -149,7 +151,8 @@ module _ (M S : ℕ) (z : Shape M S) (ds : List ℕ) (d : Listing S ds) (y : Mac
       go (listing p) o e = absurd (omega arith)
       go (writing s ub) o e = absurd (omega arith)
       go (reading s j i) o e =
-          let k : Reading S (slotsOf ds) (y .tab) n (getD (a .slots) s noFile) s j i = subst (λ (v : Block). Keeps S (slotsOf ds) (y .tab) n (a .slots) v) o (r .keeps n hn) in
+          let k : Reading S (slotsOf ds) (y .tab) n (getD (a .slots) s noFile) s j i =
+          subst (λ (v : Block). Keeps S (slotsOf ds) (y .tab) n (a .slots) v) o (r .keeps n hn) in
           let φ = fate-zero M S a n (request (y .tab) n b) (reading s j i) code (k .drive) o fits-one in
           let st = step M S z ds d y a f n b hn in
           by s j i (fate M S a n (request (y .tab) n b)) (st .ans) (st .byte)

@@ -61,15 +61,18 @@ namesake-none : (img : List ℕ) (o : ℕ) (os : List ℕ) → namesake img o os
 unfolding namesake
 namesake-none img o [] h i b e q = omega arith
 namesake-none img o (p ∷ os) h zero b e q =
-    let t : same (part img o 11) (part img p 11) ≡ false = rw e at (pick-true (pick (live img p) (same (part img o 11) (part img p 11)) false) _ h .0) in
+    let t : same (part img o 11) (part img p 11) ≡ false =
+    rw e at (pick-true (pick (live img p) (same (part img o 11) (part img p 11)) false) _ h .0) in
     absurd-bool (ap (same (part img o 11)) (sym q) ∙ same-refl (part img o 11)) t
-namesake-none img o (p ∷ os) h (suc i) b e q = namesake-none img o os (pick-true (pick (live img p) (same (part img o 11) (part img p 11)) false) _ h .1) i (omega arith) e q
+namesake-none img o (p ∷ os) h (suc i) b e q =
+    namesake-none img o os (pick-true (pick (live img p) (same (part img o 11) (part img p 11)) false) _ h .1) i (omega arith) e q
 
 none-namesake : (img : List ℕ) (o : ℕ) (os : List ℕ)
     → ((i : ℕ) → i < length os → live img (getD os i 0) ≡ true → part img o 11 ≢ part img (getD os i 0) 11) → namesake img o os ≡ false
 unfolding namesake
 none-namesake img o [] h = refl
-none-namesake img o (p ∷ os) h = rw (go (live img p) refl (same (part img o 11) (part img p 11)) refl) (none-namesake img o os (λ i b. h (suc i) (omega arith)))
+none-namesake img o (p ∷ os) h =
+    rw (go (live img p) refl (same (part img o 11) (part img p 11)) refl) (none-namesake img o os (λ i b. h (suc i) (omega arith)))
   where
     go : (u : Bool) → live img p ≡ u → (v : Bool) → same (part img o 11) (part img p 11) ≡ v → pick u v false ≡ false
     go false e v f = refl
@@ -226,7 +229,8 @@ vacant-pick x = refl
 pub room-before : (fs : List File) (s : ℕ) → vacantSlot fs ≡ slot s → (i : ℕ) → i < s → live (nameOf fs i) 0 ≡ true
 unfolding seek
 room-before [] s h i b = absurd (slot-not s (sym h))
-room-before (f ∷ fs) s h i b = go (live (f .name) 0) refl (vacantSlot fs) refl (rw (vacant-pick (f .name)) at h) i refl (λ t k j c. room-before fs t k j c)
+room-before (f ∷ fs) s h i b =
+    go (live (f .name) 0) refl (vacantSlot fs) refl (rw (vacant-pick (f .name)) at h) i refl (λ t k j c. room-before fs t k j c)
   where
     go : (u : Bool) → live (f .name) 0 ≡ u → (x : Sought) → vacantSlot fs ≡ x → onSeen (pick u Pass Hit) (slot 0) nowhere (later x) ≡ slot s → (e : ℕ)
         → i ≡ e
