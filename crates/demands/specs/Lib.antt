@@ -26,5 +26,6 @@ pub mod Sent
 pub mod Got
 pub mod Second
 pub mod Third
+pub mod Forget
 pub mod Blank
 pub mod Fakes
