@@ -1,24 +1,22 @@
 -- The shown history knows no sectors: what it says of files, and every answer that it predicts, is the same for two ledgers that
 -- differ only in which sectors are whose.
-use mathlib.Core.Path.{_≡_, refl, sym, ap, ap₂, _∙_, subst}
+use mathlib.Core.Path.{_≡_, refl, sym, ap, _∙_, subst}
 use mathlib.Core.Bool.{Bool, true, false}
 use mathlib.Core.List.{List, [], _∷_, _++_}
-use Prim.Native.Nat.{ℕ, zero, suc, _+_, _-_, _%_}
-use native.Mathlib.Omega.{arith}
+use Prim.Native.Nat.{ℕ, zero, suc, _+_}
 use lib.ListN.{length, getD, set}
 use lib.Dec.{eqb, ltb}
 use Rattle.rules.specs.Bytes.{pick, zeros}
-use Rattle.rules.specs.Directory.{live, named, vacant, onSeen}
+use Rattle.rules.specs.Directory.{named, vacant, onSeen}
 use Rattle.rules.specs.declared.Seen.{Seen}
-use Rattle.rules.specs.declared.Seen.the-variants.{Hit, Stop, Pass}
 use Rattle.rules.specs.Image.{isSector}
 use Rattle.rules.specs.Names.{legal}
 use Rattle.rules.specs.Files.{writeProtected, deleteProtected}
-use Rattle.rules.specs.Call.{served, fits, misfit}
+use Rattle.rules.specs.Call.{served, fits}
 use Rattle.laws.specs.Bytes.{length-zeros}
-use Rattle.demands.specs.Ledger.{File, noFile, Block, closed, listing, reading, writing, Ledger, Request, Fate, denied, granted, reply, gives, after, Sought, nowhere, slot, later, onSought, seek, fileNamed, vacantSlot, busy, activity, block, file, attributes, onBlock, onFile, withLast, withNew, withMark, withName, newFile, padTo, taken, transferred, openedToRead, openedToWrite, shutBlock, rewound, shownNext, deleted, renamed, performed, fate}
+use Rattle.demands.specs.Ledger.{File, noFile, Block, closed, listing, reading, writing, Ledger, Request, Fate, denied, granted, reply, gives, after, Sought, nowhere, slot, later, onSought, seek, fileNamed, vacantSlot, busy, activity, block, file, attributes, onFile, withLast, withNew, withMark, withName, newFile, padTo, taken, transferred, openedToRead, openedToWrite, shutBlock, rewound, shownNext, deleted, renamed, performed, fate}
 use Rattle.demands.specs.Service.{Entry}
-use Rattle.demands.specs.History.{then, history, answerOf, byteOf, Told, content, Shown, pending, shownFrom, shown}
+use Rattle.demands.specs.History.{then, history, Told, shownFrom, shown}
 
 -- ---- sectors forgotten: as many, but which is not said
 
