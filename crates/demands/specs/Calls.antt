@@ -23,9 +23,10 @@ use Rattle.chains.specs.Addresses.{shape-right, absurd-bool}
 use Rattle.chains.specs.Directory.{Listing}
 use Rattle.chains.specs.Stored.{puts-clear}
 use Rattle.demands.specs.Ledger.{noFile, Block, closed, listing, reading, writing, Ledger, Request, Fate, activity, block, transferred, shutBlock, rewound, shownNext, performed, fate}
+use Rattle.demands.specs.Diskette.{request}
 use Rattle.demands.specs.Relation.{tb, opens, Reading, Writing, Keeps, Agrees, tp-same}
 use Rattle.demands.specs.Quiet.{turned, activity-is, quiet, idle-quiet, idle-opens}
-use Rattle.demands.specs.Meets.{request, Meets, meets-pick, meets-unless, Met, settles}
+use Rattle.demands.specs.Meets.{Meets, meets-pick, meets-unless, Met, settles}
 use Rattle.demands.specs.Reads.{read-meets, rewind-meets}
 use Rattle.demands.specs.Takes.{write-meets}
 use Rattle.demands.specs.Fills.{close-meets}

@@ -17,7 +17,7 @@ use Rattle.laws.specs.Small.{Small}
 use Rattle.laws.specs.Effects.{answerNumbers, presetNumbers, extensionNumbers}
 use Rattle.laws.specs.Surveys.{surveyNumbers}
 use Rattle.demands.specs.Ledger.{Ledger, activity, block, nowhere, slot, fileNamed, vacantSlot}
-use Rattle.demands.specs.Survey.{ledgerOf, ledgerNumbers, ledgerOwners, fileAt}
+use Rattle.demands.specs.Diskette.{ledgerOf, ledgerNumbers, ledgerOwners, fileAt}
 use Rattle.demands.specs.Service.{Service, replied, saysOf, tableOf, ansOf, byteOf, imgOf, tabOf, Call, setting, extending, asking, Machine, answers, gave, next, entry, run, log}
 use Rattle.demands.specs.History.{history, Told, shown, ahead, filesOn, Unnamed, Survives, nameThen, Only, sentBy, Reads}
 

@@ -16,8 +16,8 @@ use Rattle.laws.specs.Addresses.{Shape}
 use Rattle.chains.specs.Chain.{contents}
 use Rattle.chains.specs.Directory.{Listing}
 use Rattle.demands.specs.Ledger.{File, Block, closed, reading, Ledger, Request, Fate, denied, granted, reply, gives, after, block, file, onBlock, transferred, fate}
+use Rattle.demands.specs.Diskette.{request}
 use Rattle.demands.specs.Relation.{opens, Reading, Keeps}
-use Rattle.demands.specs.Meets.{request}
 use Rattle.demands.specs.Changes.{Changes, changes}
 use Rattle.demands.specs.Service.{flex, Call, setting, extending, asking, Machine, Entry, answers, gave, next, entry, log}
 use Rattle.demands.specs.History.{then, concat, had, Only, Reads}

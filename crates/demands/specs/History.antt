@@ -1,4 +1,5 @@
--- The history of a list of calls: a fold over the log. It never sees image or table. What it says of files and answers.
+-- The history of a list of calls: a fold over the log, which sees neither image nor table. What it shows of files and answers; and, for
+-- comparison, the files as they stand in image and table.
 use mathlib.Core.Path.{_≡_}
 use mathlib.Core.Bool.{Bool, false}
 use mathlib.Core.List.{List, [], _∷_, _++_}
@@ -10,7 +11,7 @@ use Rattle.rules.specs.Directory.{live, placeOf}
 use Rattle.rules.specs.Block.{uses}
 use Rattle.chains.specs.Chain.{contents}
 use Rattle.demands.specs.Ledger.{File, Block, closed, listing, reading, writing, Ledger, reply, gives, after, holdsOpen, fate, file}
-use Rattle.demands.specs.Survey.{sectorsAt}
+use Rattle.demands.specs.Diskette.{sectorsAt}
 use Rattle.demands.specs.Service.{Entry}
 
 module _ (M S : ℕ) where

@@ -3,29 +3,16 @@ use mathlib.Core.Path.{_≡_, refl, sym, _∙_, subst}
 use mathlib.Core.Logic.{_≢_}
 use mathlib.Core.Bool.{Bool, true, false}
 use mathlib.Core.List.{List, [], _∷_}
-use Prim.Native.Nat.{ℕ, _+_, _*_, _<_}
-use lib.ListN.{getD}
-use Rattle.rules.specs.Bytes.{pick, one, wordAt, part}
+use Prim.Native.Nat.{ℕ, _*_, _<_}
+use Rattle.rules.specs.Bytes.{pick, one}
 use Rattle.rules.specs.Stores.{stored, put, puts}
 use Rattle.rules.specs.Outcome.{Outcome, refuse, done, Effect, settled, answer, given, onImage, onBlock}
 use Rattle.laws.specs.Addresses.{Shape}
 use Rattle.chains.specs.Directory.{Listing}
 use Rattle.laws.specs.Stores.{puts-append}
-use Rattle.demands.specs.Ledger.{Ledger, Request, Fate, denied, granted, reply, gives, after}
+use Rattle.demands.specs.Ledger.{Ledger, Fate, denied, granted, reply, gives, after}
 use Rattle.demands.specs.Relation.{Agrees}
 use Rattle.demands.specs.Quiet.{answered}
-
--- what block n asks for, as a call with the byte b finds it
-abbrev pub request : List ℕ → ℕ → ℕ → Request
-request tab n b = record {
-  code = getD tab (320 * n + 0) 0;
-  drive = getD tab (320 * n + 3) 0;
-  name = part tab (320 * n + 4) 11;
-  rename = part tab (320 * n + 53) 11;
-  date = part tab (320 * n + 25) 3;
-  position = wordAt tab (320 * n + 30);
-  byte = b;
-}
 
 module _ (M S : ℕ) (ds img tab : List ℕ) (n : ℕ) where
   -- the same number, or the same byte and a ledger that image and table agree with

@@ -25,9 +25,10 @@ use Rattle.chains.specs.Chain.{first-getD}
 use Rattle.chains.specs.Directory.{Listing}
 use Rattle.chains.specs.Stored.{fieldOf, valuesOf, noPut, Clear, puts-clear, puts-at}
 use Rattle.demands.specs.Ledger.{File, noFile, closed, reading, writing, Ledger, denied, granted, Sought, nowhere, slot, onSought, fileNamed, vacantSlot, busy, onBlock, onFile, newFile, openedToRead, openedToWrite}
+use Rattle.demands.specs.Diskette.{request}
 use Rattle.demands.specs.Relation.{tb, t2, tp, opens, Holds, Reading, Writing, Agrees, Turn, step, step-block}
 use Rattle.demands.specs.Quiet.{turned, writes-opens}
-use Rattle.demands.specs.Meets.{request, Meets, meets-unless, meets-when}
+use Rattle.demands.specs.Meets.{Meets, meets-unless, meets-when}
 use Rattle.demands.specs.Searches.{legal-part, find-is, vacancy-is, in-use-is, lookedUp, seek-found, named-hit, vacant-hit, dead-shut, not-busy, not-written}
 use Rattle.demands.specs.Marks.{slot-at, slot-frame, slot-free}
 

@@ -18,7 +18,7 @@ use Rattle.chains.specs.Addresses.{Sized, adr, room-for}
 use Rattle.chains.specs.Chain.{first, lastOf, Seg, Chain, contents, seg-same, contents-same, chain-same}
 use Rattle.chains.specs.Directory.{Listing}
 use Rattle.chains.specs.Frame.{Frame}
-use Rattle.demands.specs.Ledger.{File, noFile, Block, closed, listing, reading, writing, Ledger}
+use Rattle.demands.specs.Ledger.{File, noFile, Block, closed, listing, reading, writing, Ledger, secsOf}
 
 -- byte i of block n, and the number of two bytes there
 abbrev pub tb : List ℕ → ℕ → ℕ → ℕ
@@ -30,9 +30,6 @@ t2 tab n i = wordAt tab (320 * n + i)
 -- its place
 abbrev pub tp : List ℕ → ℕ → List ℕ
 tp tab n = part tab (320 * n + 47) 3
-
-abbrev pub secsOf : File → List ℕ
-secsOf f = f .secs
 
 -- one more than the slot that is open, or written; 0 for none
 abbrev pub opens : Block → ℕ

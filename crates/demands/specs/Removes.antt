@@ -27,9 +27,10 @@ use Rattle.chains.specs.Directory.{Listing}
 use Rattle.chains.specs.Stored.{stored-off, stored-at, puts-clear}
 use Rattle.chains.specs.Frame.{Frame, framed, Lies, in-record, in-sector, in-slot, of-nothing}
 use Rattle.demands.specs.Ledger.{File, noFile, Block, closed, Ledger, denied, granted, Sought, nowhere, slot, onSought, fileNamed, busy, attributes, onFile, withMark, withName, deleted, renamed}
+use Rattle.demands.specs.Diskette.{request}
 use Rattle.demands.specs.Relation.{t2, opens, Holds, Keeps, Agrees, tp-same, Turn, step, long}
 use Rattle.demands.specs.Quiet.{turned, shut-writes, idle-kept}
-use Rattle.demands.specs.Meets.{request, Meets, meets-unless, meets-when}
+use Rattle.demands.specs.Meets.{Meets, meets-unless, meets-when}
 use Rattle.chains.specs.Walk.{AllData}
 use Rattle.demands.specs.Sectors.{free-data, secs-data, secs-once, few, fits, sector-small, sector-data, last-data, index-last, last-small, linked-is}
 use Rattle.demands.specs.Searches.{legal-part, find-is, in-use-is, lookedUp, seek-found, named-hit, not-busy, not-open}

@@ -17,8 +17,9 @@ use Rattle.laws.specs.Addresses.{Shape}
 use Rattle.chains.specs.Addresses.{absurd-bool}
 use Rattle.chains.specs.Directory.{Listing}
 use Rattle.demands.specs.Ledger.{File, Ledger, Request, Fate, denied, granted, reply, after, slot, fileNamed, block, file, withName, fate}
+use Rattle.demands.specs.Diskette.{request}
 use Rattle.demands.specs.Relation.{writes}
-use Rattle.demands.specs.Meets.{request, Sure}
+use Rattle.demands.specs.Meets.{Sure}
 use Rattle.demands.specs.Searches.{seek-found, named-hit}
 use Rattle.demands.specs.Opens.{legal-live}
 use Rattle.demands.specs.Tidy.{nameOf, Tidy, found-there}

@@ -22,11 +22,11 @@ use Rattle.chains.specs.Directory.{Listing}
 use Rattle.demands.specs.Ledger.{File, noFile, Block, closed, listing, reading, writing, Ledger, Request, Fate, denied, granted, reply, after, nowhere, slot, fileNamed, vacantSlot, holdsOpen, busy, activity, block, file, onBlock, onFile, withLast, withName, newFile, padTo, openedToRead, openedToWrite, shutBlock, performed, fate}
 use Rattle.demands.specs.Relation.{opens, writes, Writing, Keeps}
 use Rattle.demands.specs.Quiet.{activity-is, nobody, writes-opens}
-use Rattle.demands.specs.Meets.{request, Sure}
+use Rattle.demands.specs.Meets.{Sure}
 use Rattle.demands.specs.Searches.{seek-found}
 use Rattle.demands.specs.Calls.{offset-is}
 use Rattle.demands.specs.Changes.{Changes, changes, rename-legal}
-use Rattle.demands.specs.Survey.{ledgerOf}
+use Rattle.demands.specs.Diskette.{ledgerOf, request}
 use Rattle.demands.specs.Service.{flex, replied, Call, setting, extending, asking, Machine, Entry, answers, gave, next, entry, run, log}
 use Rattle.demands.specs.History.{then, history, concat, front, content, renames, nameAfter, nameThen, Survives, sentBy}
 use Rattle.demands.specs.Demands.{Start, lastOf, perOf, told, Asks, Idle, nameIn, rest, ledgerAfter, ReadBack, ClosedWith, WrittenTo, Created, Demand2}

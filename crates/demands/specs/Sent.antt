@@ -17,8 +17,8 @@ use Rattle.laws.specs.Addresses.{Shape}
 use Rattle.chains.specs.Chain.{setLast, length-contents}
 use Rattle.chains.specs.Directory.{Listing}
 use Rattle.demands.specs.Ledger.{File, noFile, Block, closed, writing, Ledger, Request, Fate, denied, granted, reply, after, slot, busy, activity, block, file, onBlock, onFile, withLast, withNew, padTo, taken, transferred, performed, fate}
+use Rattle.demands.specs.Diskette.{request}
 use Rattle.demands.specs.Relation.{opens, writes, Writing, Keeps}
-use Rattle.demands.specs.Meets.{request}
 use Rattle.demands.specs.Searches.{not-busy, not-open}
 use Rattle.demands.specs.Tidy.{nameOf}
 use Rattle.demands.specs.Changes.{Change, Changes, changes, other-block, Slot, kept, own, fresh, lost, moved, slot-fate, live-not-room, open-live}

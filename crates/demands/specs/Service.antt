@@ -7,7 +7,7 @@ use Rattle.rules.specs.Outcome.{Effect, effect, answer, given, onImage, onBlock
 use Rattle.rules.specs.Block.{blockAt, extension as extensionRule, preset as presetRule}
 use Rattle.rules.specs.Census.{Survey, census as censusRule}
 use Rattle.demands.specs.Ledger.{Request}
-use Rattle.demands.specs.Meets.{request}
+use Rattle.demands.specs.Diskette.{request}
 use Rattle.rules.specs.Call.{call as callRule}
 
 -- an answer, and the table afterwards

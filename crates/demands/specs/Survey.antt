@@ -22,8 +22,9 @@ use Rattle.chains.specs.Addresses.{Sized}
 use Rattle.chains.specs.Chain.{Chain, contents}
 use Rattle.chains.specs.Directory.{Listing, directory-is, directory-sound}
 use Rattle.chains.specs.Walk.{chainAt, length-walk, numbers, numbers-append, numbers-walk, AllData, chain-sound, chain-complete, once-sound, once-complete}
-use Rattle.demands.specs.Ledger.{File, noFile, Block, closed, Ledger}
-use Rattle.demands.specs.Relation.{tb, secsOf, writes, Holds, Keeps, Agrees}
+use Rattle.demands.specs.Diskette.{sectorsAt, fileAt, filesAt, ledgerOf, ledgerNumbers, ownersFrom, ledgerOwners}
+use Rattle.demands.specs.Ledger.{File, noFile, Block, closed, Ledger, secsOf}
+use Rattle.demands.specs.Relation.{tb, writes, Holds, Keeps, Agrees}
 use Rattle.demands.specs.Sectors.{free-data, free-count, secs-data, secs-count}
 use Rattle.demands.specs.Searches.{live-at, part-head}
 use Rattle.demands.specs.Tidy.{nameOf, Tidy, holed-sound, holed-complete, twins-sound, twins-complete}
@@ -33,27 +34,6 @@ unfolding neverUsed
 unused-part m o = ap (λ (x : ℕ). eqb x 0) (part-head m o 10)
 
 -- ---- the files of an image
-
--- the sectors of the slot at o: those of its chain, if it is live
-abbrev pub sectorsAt : ℕ → List ℕ → ℕ → List ℕ
-sectorsAt S img o = pick (live img o) (chainAt S img (o + 13)) []
-
-unfoldable pub fileAt : ℕ → List ℕ → ℕ → File
-fileAt S img o = record {
-  name = part img o 11;
-  mode = part img (o + 11) 2;
-  date = part img (o + 19) 5;
-  secs = sectorsAt S img o;
-  body = contents img (sectorsAt S img o);
-}
-
-unfoldable pub filesAt : ℕ → List ℕ → List ℕ → List File
-filesAt S img [] = []
-filesAt S img (o ∷ os) = fileAt S img o ∷ filesAt S img os
-
--- the ledger of an image, all blocks closed
-unfoldable pub ledgerOf : ℕ → List ℕ → Ledger
-ledgerOf S img = record { free = chainAt S img 541; slots = filesAt S img (slots img S); blocks = replicate 8 closed }
 
 pub length-files : (S : ℕ) (img os : List ℕ) → length (filesAt S img os) ≡ length os
 unfolding filesAt
@@ -67,17 +47,6 @@ files-at S img (o ∷ os) zero h = refl
 files-at S img (o ∷ os) (suc i) h = files-at S img os i (omega arith)
 
 -- ---- what the census lists
-
--- of a ledger: the numbers of its sectors, free ones first, then slot by slot; and for each its owner
-abbrev pub ledgerNumbers : ℕ → Ledger → List ℕ
-ledgerNumbers S a = numbers S (a .free ++ flat secsOf (a .slots))
-
-abbrev pub ownersFrom : ℕ → List File → List ℕ
-ownersFrom owner [] = []
-ownersFrom owner (f ∷ fs) = replicate (length (f .secs)) owner ++ ownersFrom (owner + 1) fs
-
-abbrev pub ledgerOwners : Ledger → List ℕ
-ledgerOwners a = replicate (length (a .free)) 0 ++ ownersFrom 1 (a .slots)
 
 file-numbers : (S : ℕ) (img : List ℕ) (o : ℕ) → fileNumbers img S o ≡ numbers S (sectorsAt S img o)
 unfolding fileNumbers
