@@ -231,7 +231,7 @@ impl<'a> Scene<'a> {
 
     /// Eleven bytes into a block, as a host does it or at once.
     pub fn give_name(&mut self, fcb: usize, at: usize, name: Name) -> Checked<()> {
-        if self.random.chance(25) {
+        if self.random.chance(10) {
             for (i, &letter) in name.iter().enumerate() {
                 self.pair.preset(fcb, at + i, letter)?;
             }

@@ -1,5 +1,6 @@
-//! What is tried in full and not at random: every shape, every shape just past the limits, every offset of preset, every code
-//! of a default extension, every number and length of the error text.
+//! What is tried in full and not at random: every shape and every shape just past the limits, every function code, every
+//! byte in every place of a name, every directory place, every attribute byte, every offset of preset, every code of a
+//! default extension, every number and length of the error text.
 
 use crate::pair::{Checked, Pair};
 use crate::random::Random;
@@ -12,8 +13,95 @@ pub fn everything(tally: &mut Tally, seed: u64) -> Checked<()> {
     error_texts(tally, &mut random)?;
     presets(tally)?;
     extensions(tally)?;
+    codes(tally)?;
+    letters(tally)?;
+    places(tally)?;
+    attributes(tally)?;
     past_the_limits(tally)?;
     shapes(tally, &mut random)
+}
+
+/// A small diskette with one file of one sector, A.TXT, in the first slot, and all blocks closed.
+fn small(tally: &mut Tally) -> Pair<'_> {
+    let mut image = diskettes::blank(2, 7);
+    image[4 * 256 + 16..][..19].copy_from_slice(b"A\0\0\0\0\0\0\0TXT\0\0\x02\x07\x02\x07\0\x01");
+    image[541..547].copy_from_slice(&[1, 1, 2, 6, 0, 13]);
+    image[diskettes::offset(7, 2, 6)..][..2].copy_from_slice(&[0, 0]);
+    Pair::new(&image, &[0; TABLE], tally)
+}
+
+/// Every code with every kind of activity, on drive 0 and on others.
+fn codes(tally: &mut Tally) -> Checked<()> {
+    let mut pair = small(tally);
+    pair.census_lent(pair.image().len(), 28, 28, 0)?;
+    for code in 0..=255 {
+        for activity in [0, 1, 2, 3, 15, 16, 17, 255] {
+            for drive in [0, 1, 128, 255] {
+                pair.poke_table(0, &[0; BLOCK]);
+                pair.poke_table(0, &[code, 77, activity, drive]);
+                pair.call(0, 0)?;
+            }
+        }
+    }
+    Ok(())
+}
+
+/// Every byte in every place of a name and of a new name, behind full and short words.
+fn letters(tally: &mut Tally) -> Checked<()> {
+    let mut pair = small(tally);
+    for name in [b"ABCDEFGHXYZ", b"A\0\0\0\0\0\0\0X\0\0"] {
+        for at in 0..11 {
+            for letter in 0..=255 {
+                let mut tried = *name;
+                tried[at] = letter;
+                pair.poke_table(0, &[1, 0, 0, 0]);
+                pair.poke_table(4, &tried);
+                pair.call(0, 0)?;
+                pair.poke_table(0, &[13, 0, 0, 0]);
+                pair.poke_table(4, b"B\0\0\0\0\0\0\0TXT");
+                pair.poke_table(53, &tried);
+                pair.call(0, 0)?;
+            }
+        }
+    }
+    Ok(())
+}
+
+/// Every value of each byte of a directory place, for the next slot, a sector to take and a close of an unwritten file.
+fn places(tally: &mut Tally) -> Checked<()> {
+    let mut pair = small(tally);
+    for right in [[0, 5, 16], [0, 7, 232], [0, 0, 0]] {
+        for at in 0..3 {
+            for value in 0..=255 {
+                let mut place = right;
+                place[at] = value;
+                for start in [[7, 0, 16], [0, 0, 2], [4, 0, 2]] {
+                    pair.poke_table(0, &[0; BLOCK]);
+                    pair.poke_table(0, &start);
+                    pair.poke_table(47, &place);
+                    pair.call(0, value)?;
+                }
+            }
+        }
+    }
+    Ok(())
+}
+
+/// Every attribute byte, for delete and rename; the file is there again each time.
+fn attributes(tally: &mut Tally) -> Checked<()> {
+    let mut pair = small(tally);
+    let image = pair.image().to_vec();
+    for attributes in 0..=255 {
+        for code in [12, 13, 1] {
+            pair.poke_image(0, &image);
+            pair.poke_image(4 * 256 + 16 + 11, &[attributes]);
+            pair.poke_table(0, &[code, 0, 0, 0]);
+            pair.poke_table(4, b"A\0\0\0\0\0\0\0TXT");
+            pair.poke_table(53, b"B\0\0\0\0\0\0\0TXT");
+            pair.call(0, 0)?;
+        }
+    }
+    Ok(())
 }
 
 fn error_texts(tally: &mut Tally, random: &mut Random) -> Checked<()> {
