@@ -9,7 +9,6 @@ archive=$root/target/staticlib/libflex.a
 triple=x86_64-unknown-linux-gnu
 built=$root/target/host/$triple/release # where the built programs are
 cc=cc                                   # compiles C for x86-64
-c_flags=()
 emulator=()                             # what runs an x86-64 program here
 updated=
 
@@ -67,7 +66,6 @@ native_tools() {
     [ ${#missing[@]} -eq 0 ] || install "${missing[@]}"
 }
 
-# Programs are linked statically, so that the emulator needs no x86-64 libraries.
 cross_tools() {
     if ! has_std; then
         # Debian's rustc takes Debian's std of the other machine; one from elsewhere in front of it would not.
@@ -83,11 +81,11 @@ cross_tools() {
     command -v x86_64-linux-gnu-gcc >/dev/null || install gcc-x86-64-linux-gnu libc6-dev-amd64-cross
     command -v qemu-x86_64 >/dev/null || install qemu-user
     cc=x86_64-linux-gnu-gcc
-    c_flags=(-static)
     emulator=(qemu-x86_64)
-    export CARGO_TARGET_X86_64_UNKNOWN_LINUX_GNU_LINKER=x86_64-linux-gnu-gcc
-    export CARGO_TARGET_X86_64_UNKNOWN_LINUX_GNU_RUNNER=qemu-x86_64
-    export CARGO_TARGET_X86_64_UNKNOWN_LINUX_GNU_RUSTFLAGS="-C target-feature=+crt-static"
+    # An x86-64 C library comes with Debian's std; where that std is not Debian's, the cross compiler has one.
+    [ -e /lib64/ld-linux-x86-64.so.2 ] || emulator+=(-L /usr/x86_64-linux-gnu)
+    export CARGO_TARGET_X86_64_UNKNOWN_LINUX_GNU_LINKER=$cc
+    export CARGO_TARGET_X86_64_UNKNOWN_LINUX_GNU_RUNNER="${emulator[*]}"
 }
 
 find_tools() {

@@ -1,8 +1,9 @@
 //! Compares the proved archive with the reference, call by call: the answer, and every byte of both buffers.
 //!
-//! First what is tried in full (sweep.rs), then episodes at random until enough calls were made. An episode has a diskette of
-//! its own and one of three moods: calm, where only calls change anything; rough, where the diskette is damaged now and then;
-//! wild, where control blocks are random too. Each has a seed of its own, so that a failure is repeated alone and at once.
+//! First what is tried in full (sweep.rs), then episodes at random until enough calls were made. An episode has a diskette
+//! of its own and one of three moods: calm, where calls alone change it, so that the census must accept it in the end;
+//! rough, where it is damaged now and then; wild, where control blocks are random too. Each has a seed of its own, so that
+//! a failure is repeated alone and at once.
 
 mod damage;
 mod lent;
@@ -14,7 +15,7 @@ mod sweep;
 mod tally;
 mod work;
 
-use pair::{Checked, Pair};
+use pair::{Checked, Mismatch, Pair};
 use random::Random;
 use scene::Scene;
 use std::env;
@@ -147,13 +148,10 @@ fn episode(seed: u64, number: u64, tally: &mut Tally) -> Checked<()> {
     if mood == Mood::Wild && random.chance(50) {
         random.fill(&mut table);
     }
-    let large = image.len() > 100_000;
-    let budget = if large {
-        100
-    } else if mood == Mood::Calm {
-        1500
-    } else {
-        600
+    let budget = match mood {
+        _ if image.len() > 100_000 => 100,
+        Mood::Calm => 1500,
+        _ => 600,
     };
     let until = tally.calls + budget;
     let skips = random.chance(70);
@@ -164,7 +162,10 @@ fn episode(seed: u64, number: u64, tally: &mut Tally) -> Checked<()> {
     while scene.pair.calls() < until {
         step(&mut scene, mood)?;
     }
-    scene.census()?;
+    let answer = scene.census()?;
+    if mood == Mood::Calm && answer != 0 {
+        return Err(Mismatch(format!("calls alone have led to a diskette that the census refuses with {}", answer)));
+    }
     Ok(())
 }
 

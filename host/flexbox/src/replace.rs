@@ -39,3 +39,31 @@ fn sync_folder(path: &Path) -> io::Result<()> {
         None => Ok(()),
     }
 }
+
+#[cfg(test)]
+mod tests {
+    use super::*;
+    use std::env;
+
+    #[test]
+    fn the_new_bytes_are_there_and_no_other_file() {
+        let folder = env::temp_dir().join(format!("flexbox-replace-{}", process::id()));
+        let image = folder.join("disk");
+        fs::create_dir(&folder).unwrap();
+        fs::write(&image, b"old").unwrap();
+        replace(&image, b"new and longer").unwrap();
+        assert_eq!(fs::read(&image).unwrap(), b"new and longer");
+        // Where the new file can't be made, the old one stays.
+        fs::create_dir(beside(&image)).unwrap();
+        assert!(replace(&image, b"never").is_err());
+        assert_eq!(fs::read(&image).unwrap(), b"new and longer");
+        fs::remove_dir(beside(&image)).unwrap();
+        assert_eq!(fs::read_dir(&folder).unwrap().count(), 1);
+        fs::remove_dir_all(&folder).unwrap();
+    }
+
+    #[test]
+    fn there_must_be_an_old_file() {
+        assert!(replace(Path::new("/nowhere/disk"), b"x").is_err());
+    }
+}
