@@ -1,9 +1,10 @@
 -- Bytes written from a place on, and how many: one run behind the other.
 use mathlib.Core.Path.{_≡_, refl, sym, ap, ap₂, _∙_}
 use mathlib.Core.List.{List, [], _∷_, _++_}
-use Prim.Native.Nat.{ℕ, _+_}
+use Prim.Native.Nat.{ℕ, _+_, _≤_}
 use native.Mathlib.Omega.{arith}
-use lib.ListN.{length, length-append}
+use lib.ListN.{length, take, length-append}
+use lib.Seq.{length-take-le}
 use Rattle.rules.specs.Bytes.{over, one}
 use Rattle.laws.specs.Bytes.{over-append, length-one, length-over}
 
@@ -44,3 +45,7 @@ module _ (out out₁ : List ℕ) (at : ℕ) (bs : List ℕ) {n : ℕ} (e : texte
   pub count-is : n ≡ length bs
   unfolding written
   count-is = cc
+
+-- the first n bytes of a text are n, if it has them
+pub first-bytes : (out out₁ bs : List ℕ) (n m : ℕ) → out₁ ≡ over out 0 bs → m ≡ length out → n ≤ m → n ≡ length (take n out₁)
+first-bytes out out₁ bs n m e k h = sym (length-take-le n out₁ (omega (arith, ap length e, length-over out 0 bs)))

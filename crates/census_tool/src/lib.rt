@@ -174,3 +174,12 @@ pub fn print(image: &[u8], out: &mut [u8]) -> usize
 {
     put_printed(out, image)
 }
+
+// The program: an image is read from standard input, up to 65,536 bytes of it, and what is to be printed is written to standard output.
+pub fn run() {
+    let mut input = io::large_buffer();
+    let count = io::read_full(0, &mut input);
+    let mut out = io::buffer();
+    let n = print(&input[..count], &mut out);
+    io::write_all(1, &out[..n]);
+}
