@@ -60,7 +60,7 @@ extern "C" {
 #define FLEX_OPEN_DIRECTORY 6 /* idle */
 #define FLEX_NEXT_SLOT 7      /* open directory: the next slot to 4-27, whatever it holds */
 #define FLEX_READ_SECTOR 9    /* idle; the sector at 30-31 to the buffer */
-#define FLEX_DELETE 12        /* idle; the file by this name */
+#define FLEX_DELETE 12        /* idle; the file by this name. 4-27 are then the marked slot: byte 4 is 255 */
 #define FLEX_RENAME 13        /* idle; the file by this name gets the new name */
 
 /* Answers. */

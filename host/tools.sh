@@ -41,8 +41,8 @@ quietly() {
     rm -f "$log"
 }
 
-# install PACKAGE..: Debian's packages, after one update of the lists
-install() {
+# get_packages PACKAGE..: Debian's packages, after one update of the lists
+get_packages() {
     command -v apt-get >/dev/null || die "please install what Debian calls: $*"
     say "installing Debian's $*"
     if [ -z "$updated" ]; then
@@ -63,7 +63,7 @@ native_tools() {
     command -v cargo >/dev/null || missing+=(cargo)
     command -v rustc >/dev/null || missing+=(rustc)
     command -v cc >/dev/null || missing+=(gcc libc6-dev)
-    [ ${#missing[@]} -eq 0 ] || install "${missing[@]}"
+    [ ${#missing[@]} -eq 0 ] || get_packages "${missing[@]}"
 }
 
 cross_tools() {
@@ -75,11 +75,11 @@ cross_tools() {
                 as_root dpkg --add-architecture amd64
                 updated=
             fi
-            install rustc cargo gcc libc6-dev libstd-rust-dev libstd-rust-dev:amd64
+            get_packages rustc cargo gcc libc6-dev libstd-rust-dev libstd-rust-dev:amd64
         fi
     fi
-    command -v x86_64-linux-gnu-gcc >/dev/null || install gcc-x86-64-linux-gnu libc6-dev-amd64-cross
-    command -v qemu-x86_64 >/dev/null || install qemu-user
+    command -v x86_64-linux-gnu-gcc >/dev/null || get_packages gcc-x86-64-linux-gnu libc6-dev-amd64-cross
+    command -v qemu-x86_64 >/dev/null || get_packages qemu-user
     cc=x86_64-linux-gnu-gcc
     emulator=(qemu-x86_64)
     # An x86-64 C library comes with Debian's std; where that std is not Debian's, the cross compiler has one.
