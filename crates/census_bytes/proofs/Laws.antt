@@ -16,10 +16,10 @@ use Rattle.rules.specs.Host.{asBytes, hostConcluded, hostCensus}
 use mir.Syntax.{w64}
 use mir.Val.{Fits}
 use Rattle.laws.specs.Addresses.{shape-is, data-few}
-use Rattle.disk.specs.declared.Shape.{Shape}
 use Rattle.disk.specs.declared.Shaped.{Shaped}
-use Rattle.disk.specs.declared.Shaped.the-variants.{Right, Wrong}
+use Rattle.disk.specs.declared.Shaped.the-variants.{Wrong}
 use Rattle.disk.specs.Loaded.{shapeOf}
+use Rattle.disk.specs.Shapes.{Shaping, wrong-is}
 use Rattle.laws.specs.Bytes.{over-append, over-none, length-two}
 
 -- ---- numbers as bytes
@@ -83,10 +83,6 @@ concluded-bytes img S n e = go (eqb e 0)
     go true = refl
     go false = ap₂ (survey e) (bytes-full n) (bytes-full n)
 
--- what the image says of M and S
-abbrev pub Shaping : List ℕ → ℕ → ℕ → Type 0
-Shaping img M S = (shapeRight img ≡ true) × (M ≡ lastTrack img) × (S ≡ perTrack img)
-
 module _ (img xs ys : List ℕ) (M S : ℕ) (p : Shaping img M S) where
   wide : 2 * (M * S) ≡ 2 * (lastTrack img * perTrack img)
   wide = ap₂ (λ (a b : ℕ). 2 * (a * b)) (p .1) (p .2)
@@ -114,30 +110,9 @@ pub numbers-ready : (img xs ys : List ℕ) (M S : ℕ) → Shaping img M S → l
     → (shapeRight img ≡ true) × (M * S ≡ lastTrack img * perTrack img) × (M * S ≤ 2844) × (length xs ≡ 2 * (M * S)) × (length ys ≡ 2 * (M * S))
 numbers-ready img xs ys M S p h k = (p .0, ap₂ (λ (a b : ℕ). a * b) (p .1) (p .2), few img M S p, h, k)
 
--- the image's shape, as it was found
-said : List ℕ → Shape
-said img = record { last = lastTrack img; per = perTrack img }
-
-never : (z : Shaped) (s : Shape) → z ≡ Right s → z ≡ Wrong → ⊥
-never z s p q = let c : _≡_ {A = ℕ} 0 1 = cc in omega arith
-
-pub shape-right : (img : List ℕ) {z : Shaped} {s : Shape} → z ≡ shapeOf img → z ≡ Right s → Shaping img (s .last) (s .per)
-unfolding shapeOf said
-shape-right img {z} {s} e r = go (shapeRight img) refl (e)
-  where
-    go : (t : Bool) → shapeRight img ≡ t → z ≡ pick t (Right (said img)) Wrong → Shaping img (s .last) (s .per)
-    go true q w =
-        let same : s ≡ said img = cc in
-        (q, ap (λ (x : Shape). x .last) same, ap (λ (x : Shape). x .per) same)
-    go false q w = absurd (never z s r w)
-
 pub host-wrong : (img xs ys : List ℕ) {z : Shaped} → z ≡ shapeOf img → z ≡ Wrong → survey 41 xs ys ≡ hostCensus img xs ys
-unfolding shapeOf said hostCensus
-host-wrong img xs ys {z} e r = go (shapeRight img) refl e
-  where
-    go : (t : Bool) → shapeRight img ≡ t → z ≡ pick t (Right (said img)) Wrong → survey 41 xs ys ≡ hostCensus img xs ys
-    go true q w = absurd (never z (said img) w r)
-    go false q w = rw q refl
+unfolding hostCensus
+host-wrong img xs ys e r = rw (wrong-is img e r) refl
 
 pub host-both : (img xs ys us vs : List ℕ) {e : ℕ} {us′ vs′ xs′ ys′ : List ℕ} → shapeRight img ≡ true → length us ≡ lastTrack img * perTrack img
     → length vs ≡ length us → length xs ≡ 2 * length us → length ys ≡ 2 * length us → length us′ ≡ length us → length vs′ ≡ length vs

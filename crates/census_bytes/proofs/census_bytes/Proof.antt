@@ -1,4 +1,5 @@
-use Rattle.census_bytes.proofs.Laws.{shape-right, host-wrong}
+use Rattle.disk.specs.Shapes.{right-is}
+use Rattle.census_bytes.proofs.Laws.{host-wrong}
 use borrow.Author.Needs.{needs}
 use Rattle.census_bytes.proofs.census_bytes.Statement.{statement}
 use Rattle.census_bytes.proofs.census_bytes.Tie as tie
@@ -8,5 +9,5 @@ census-bytes-spec =
     tie.close
     (tie.spec
     (λ c κs. search needs) (λ c. search needs)
-    (λ c κs. shape-right _ (c .before .before .before .before .before .shape-of .ensures) (search needs))
+    (λ c κs. right-is _ (c .before .before .before .before .before .shape-of .ensures) (search needs))
     (λ c. search needs) (λ c. search needs) (λ c. search needs) (λ c. search needs) (λ c. search host-wrong))
