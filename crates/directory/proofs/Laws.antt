@@ -1,5 +1,5 @@
 -- Each way through the functions of this crate, and each turn and way out of their loops. In a loop's laws w is the answer.
-use mathlib.Core.Path.{_≡_, refl, sym, ap, _∙_}
+use mathlib.Core.Path.{_≡_, refl, ap, _∙_}
 use mathlib.Core.Bool.{Bool, true, false}
 use mathlib.Core.List.{List, []}
 use Prim.Native.Nat.{ℕ, _+_, _-_, _*_, _/_, _%_, _≤_, _<_}
@@ -20,9 +20,8 @@ use Rattle.rules.specs.declared.Lookup.{Lookup}
 use Rattle.rules.specs.declared.Lookup.the-variants.{At, Missing, Broken}
 use Rattle.laws.specs.Bytes.{same-no, same-on}
 use Rattle.laws.specs.Walk.{ends-more, ends-none, sectors-more, sectors-none, slots-more, slots-none}
-use Rattle.laws.specs.Addresses.{index-small}
-use Rattle.laws.specs.Slots.{further, scan-append, placed-is}
-use Rattle.directory.specs.Sought.{looked, sought, behind}
+use Rattle.laws.specs.Slots.{further, scan-append}
+use Rattle.directory.specs.Sought.{looked, sought}
 
 -- ---- links
 
@@ -254,10 +253,6 @@ module _ (img : List ℕ) (S a d : ℕ) {r : Bool} (e : r ≡ directoryRight img
         unfolding placed
         placed-at z = rw (← e, j, ← q, l, ← x, ← p, f, ← g, z) refl
 
--- a slot that a place names begins below 2 ^ 24
-pub placed-low : (img : List ℕ) (S a d : ℕ) {o : Lookup} {slot : ℕ} → S < 256 → d < 256 → o ≡ placed img S a d → o ≡ At slot → slot < 16777216
-placed-low img S a d {slot = slot} h k e q = omega (arith, placed-is img S a d slot (sym e ∙ q) .1, index-small S a h)
-
 -- ---- the slot behind
 
 pub behind-near : (img : List ℕ) (S slot : ℕ) → slot % 256 < 232 → At (slot + 24) ≡ slotBehind img S slot
@@ -276,16 +271,3 @@ module _ (img : List ℕ) (S slot : ℕ) {a : Next} (h : 232 ≤ slot % 256) (e 
   pub behind-to : {k : ℕ} → a ≡ To k → At (256 * k + 16) ≡ slotBehind img S slot
   unfolding slotBehind
   behind-to j = rw (le-ltb (slot % 256) 232 h, ← e, j) refl
-
-module _ (img : List ℕ) (S a d : ℕ) {p : Lookup} (e : p ≡ placed img S a d) where
-  pub behind-at : {slot : ℕ} {o : Lookup} → p ≡ At slot → o ≡ slotBehind img S slot → o ≡ behind img S a d
-  unfolding behind
-  behind-at j q = rw (← e, j) q
-
-  pub behind-missing : p ≡ Missing → Broken ≡ behind img S a d
-  unfolding behind
-  behind-missing j = rw (← e, j) refl
-
-  pub behind-broken : p ≡ Broken → Broken ≡ behind img S a d
-  unfolding behind
-  behind-broken j = rw (← e, j) refl

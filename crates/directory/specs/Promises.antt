@@ -1,10 +1,9 @@
 -- No second outcome fits the promise of a public function of this crate.
 use mathlib.Core.List.{List}
 use Prim.Native.Nat.{ℕ}
-use Rattle.rules.specs.Bytes.{part, over}
-use Rattle.rules.specs.Directory.{nextOf, mostOfDirectory, directoryRight, find, vacancy, placed, placeOf}
+use Rattle.rules.specs.Bytes.{part, over, same}
+use Rattle.rules.specs.Directory.{nextOf, mostOfDirectory, directoryRight, live, find, vacancy, placed, placeOf, slotBehind}
 use Rattle.laws.specs.Single.{Single, single}
-use Rattle.directory.specs.Sought.{behind}
 
 pub next-of-single : (img : List ℕ) (S k : ℕ) → Single (nextOf img S k)
 next-of-single img S k = single (nextOf img S k)
@@ -15,6 +14,12 @@ most-of-single S = single (mostOfDirectory S)
 pub directory-right-single : (img : List ℕ) (S : ℕ) → Single (directoryRight img S)
 directory-right-single img S = single (directoryRight img S)
 
+pub is-live-single : (img : List ℕ) (slot : ℕ) → Single (live img slot)
+is-live-single img slot = single (live img slot)
+
+pub same-name-single : (img : List ℕ) (slot : ℕ) (tab : List ℕ) (at : ℕ) → Single (same (part img slot 11) (part tab at 11))
+same-name-single img slot tab at = single (same (part img slot 11) (part tab at 11))
+
 pub find-single : (img : List ℕ) (S : ℕ) (tab : List ℕ) (at : ℕ) → Single (find img S (part tab at 11))
 find-single img S tab at = single (find img S (part tab at 11))
 
@@ -24,8 +29,8 @@ vacancy-single img S = single (vacancy img S)
 pub placed-single : (img : List ℕ) (S a d : ℕ) → Single (placed img S a d)
 placed-single img S a d = single (placed img S a d)
 
-pub behind-single : (img : List ℕ) (S a d : ℕ) → Single (behind img S a d)
-behind-single img S a d = single (behind img S a d)
+pub slot-behind-single : (img : List ℕ) (S slot : ℕ) → Single (slotBehind img S slot)
+slot-behind-single img S slot = single (slotBehind img S slot)
 
 pub put-place-single : (tab : List ℕ) (at slot : ℕ) → Single (over tab at (placeOf slot))
 put-place-single tab at slot = single (over tab at (placeOf slot))

@@ -4,9 +4,10 @@ ghost use mathlib.Core.Path.{_≡_};
 ghost use Prim.Native.Nat.{_+_, _*_, _<_};
 ghost use Rattle.rules.specs.Bytes.{part, over, same};
 ghost use Rattle.rules.specs.Directory.{isDirectory, stepTo, nextOf, mostOfDirectory, directoryRight, directory, slotsAt, firstSlotOf, slots, live, scan, lookupOf, find, vacancy, member, isDisplacement, placed, placeOf, slotBehind};
-ghost use Rattle.directory.specs.Sought.{looked, sought, behind};
+ghost use Rattle.directory.specs.Sought.{looked, sought};
 use cells::get;
 use cells::get_in;
+use cells::get2;
 use cells::store;
 use disk::index_of;
 use disk::link_of;
@@ -78,7 +79,7 @@ pub fn directory_right(image: &[u8], per: u8) -> bool
 }
 
 // Is a slot live?
-fn is_live(image: &[u8], slot: u32) -> bool
+pub fn is_live(image: &[u8], slot: u32) -> bool
     ensures { λ r. ⌜ r ≡ live (now (image .entry)) slot ⌝ }
 {
     let b = get(image, slot as usize);
@@ -92,7 +93,7 @@ fn is_live(image: &[u8], slot: u32) -> bool
 }
 
 // Are a slot's first eleven bytes those at a place of the table?
-fn same_name(image: &[u8], slot: u32, table: &[u8], at: usize) -> bool
+pub fn same_name(image: &[u8], slot: u32, table: &[u8], at: usize) -> bool
     ensures { λ r. ⌜ r ≡ same (part (now (image .entry)) slot 11) (part (now (table .entry)) at 11) ⌝ }
 {
     let mut i = 0usize;
@@ -270,30 +271,18 @@ pub fn placed(image: &[u8], per: u8, a: u16, d: u8) -> Lookup
 }
 
 // The slot behind a slot.
-fn slot_behind(image: &[u8], per: u8, slot: u32) -> Lookup
-    requires { ⌜ slot < 16777216 ⌝ }
+pub fn slot_behind(image: &[u8], per: u8, slot: u32) -> Lookup
     ensures { λ r. ⌜ r ≡ slotBehind (now (image .entry)) per slot ⌝ }
 {
     if slot % 256 < 232 {
         return Lookup::At(slot + 24);
     }
-    let next = next_of(image, per, (slot / 256) as u16);
+    let a = get2(image, 256 * (slot as usize / 256));
+    let next = step_to(per, a);
     match next {
         Next::End => Lookup::Missing,
         Next::Astray => Lookup::Broken,
         Next::To(k) => Lookup::At(256 * k as u32 + 16),
-    }
-}
-
-// The slot behind the one at an address and a displacement, which must be a slot of the directory.
-pub fn behind(image: &[u8], per: u8, a: u16, d: u8) -> Lookup
-    ensures { λ r. ⌜ r ≡ behind (now (image .entry)) per a d ⌝ }
-{
-    let here = placed(image, per, a, d);
-    match here {
-        Lookup::At(slot) => slot_behind(image, per, slot),
-        Lookup::Missing => Lookup::Broken,
-        Lookup::Broken => Lookup::Broken,
     }
 }
 

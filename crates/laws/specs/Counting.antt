@@ -21,7 +21,7 @@ unfolding tally
 tally-other x y ys h = rw (ne-eqb y x h) (omega arith)
 
 -- how many numbers of a list are below n
-total : ℕ → List ℕ → ℕ
+unfoldable pub total : ℕ → List ℕ → ℕ
 total zero xs = 0
 total (suc n) xs = tally n xs + total n xs
 
@@ -30,12 +30,12 @@ unfolding total tally
 total-nil zero = refl
 total-nil (suc n) = omega (arith, total-nil n)
 
-total-out : (n y : ℕ) (ys : List ℕ) → n ≤ y → total n (y ∷ ys) ≡ total n ys
+pub total-out : (n y : ℕ) (ys : List ℕ) → n ≤ y → total n (y ∷ ys) ≡ total n ys
 unfolding total
 total-out zero y ys h = refl
 total-out (suc n) y ys h = omega (arith, tally-other n y ys (omega arith), total-out n y ys (omega arith))
 
-total-in : (n y : ℕ) (ys : List ℕ) → y < n → total n (y ∷ ys) ≡ 1 + total n ys
+pub total-in : (n y : ℕ) (ys : List ℕ) → y < n → total n (y ∷ ys) ≡ 1 + total n ys
 unfolding total
 total-in zero y ys h = absurd (omega arith)
 total-in (suc n) y ys h = go (ℕ-discrete y n) (total-in n y ys)
@@ -44,11 +44,11 @@ total-in (suc n) y ys h = go (ℕ-discrete y n) (total-in n y ys)
     go (yes e) ih = omega (arith, ap (λ (x : ℕ). tally x (y ∷ ys)) e, ap (λ (x : ℕ). tally x ys) e, tally-same y ys, total-out n y ys (omega arith))
     go (no e) ih = omega (arith, tally-other n y ys e, ih (omega arith))
 
-total-length : (n : ℕ) (xs : List ℕ) → Each (λ (x : ℕ). x < n) xs → total n xs ≡ length xs
+pub total-length : (n : ℕ) (xs : List ℕ) → Each (λ (x : ℕ). x < n) xs → total n xs ≡ length xs
 total-length n [] h = total-nil n
 total-length n (x ∷ xs) h = omega (arith, total-in n x xs (h .0), total-length n xs (h .1))
 
-total-once : (n : ℕ) (xs : List ℕ) → eachOnce n xs ≡ true → total n xs ≡ n
+pub total-once : (n : ℕ) (xs : List ℕ) → eachOnce n xs ≡ true → total n xs ≡ n
 unfolding total eachOnce
 total-once zero xs h = refl
 total-once (suc n) xs h =

@@ -15,4 +15,5 @@ pub mod Effects
 pub mod Counting
 pub mod Surveys
 pub mod Texts
+pub mod Parts
 pub mod Settled

@@ -95,6 +95,14 @@ numbers-files img M S (o ∷ os) h =
     let q = both (fileRight img M S o) _ h in
     each-append (λ (x : ℕ). x < M * S) (fileNumbers img S o) (filesNumbers img S os) (numbers-file img M S o (q .0)) (numbers-files img M S os (q .1))
 
+-- of all chains
+pub numbers-listed : (img : List ℕ) (M S : ℕ) → freeRight img M S ≡ true → filesRight img M S (slots img S) ≡ true → Numbers M S (listed img S)
+unfolding listed freeRight
+numbers-listed img M S f h =
+    each-append (λ (x : ℕ). x < M * S) (numbersFrom img S (freeCount img) (firstFree img)) (filesNumbers img S (slots img S))
+    (numbers-chain img M S (firstFree img) (lastFree img) (freeCount img) f)
+    (numbers-files img M S (slots img S) h)
+
 -- ---- what the census asks of an image of the right shape
 
 pub record Sane (img : List ℕ) (M S : ℕ) : Type 0 where
@@ -106,11 +114,7 @@ pub record Sane (img : List ℕ) (M S : ℕ) : Type 0 where
   pub once : eachOnce (M * S) (listed img S) ≡ true
 
 pub listed-below : (img : List ℕ) (M S : ℕ) → Sane img M S → Numbers M S (listed img S)
-unfolding listed freeRight
-listed-below img M S s =
-    each-append (λ (x : ℕ). x < M * S) (numbersFrom img S (freeCount img) (firstFree img)) (filesNumbers img S (slots img S))
-    (numbers-chain img M S (firstFree img) (lastFree img) (freeCount img) (s .free))
-    (numbers-files img M S (slots img S) (s .files))
+listed-below img M S s = numbers-listed img M S (s .free) (s .files)
 
 pub length-listed : (img : List ℕ) (M S : ℕ) → Sane img M S → length (listed img S) ≡ M * S
 length-listed img M S s = once-length (M * S) (listed img S) (s .once) (listed-below img M S s)

@@ -1,0 +1,2 @@
+-- What the proofs of the census share.
+pub mod Laws

@@ -1,0 +1,84 @@
+-- What an accepted census says: M·S numbers, each data sector's once, and beside each its owner, 0 or the number of a live slot. And
+-- that no second outcome fits the census.
+use mathlib.Core.Path.{_≡_, refl, sym, ap, _∙_, subst}
+use mathlib.Core.Logic.{_⊎_, inl, inr}
+use mathlib.Core.Bool.{Bool, true, false}
+use mathlib.Core.List.{List, [], _∷_, _++_}
+use Prim.Native.Nat.{ℕ, zero, suc, _+_, _*_, _≤_, _<_}
+use native.Mathlib.Omega.{arith}
+use lib.ListN.{length, getD, replicate}
+use Rattle.rules.specs.Bytes.{pick}
+use Rattle.rules.specs.Image.{lastTrack, perTrack, freeCount}
+use Rattle.rules.specs.Directory.{slots, live, sizeAt}
+use Rattle.rules.specs.Census.{fileOwners, filesOwners, listed, owners, tally, Survey, survey, census}
+use Rattle.laws.specs.Each.{Each, each-append, each-so, each-at}
+use Rattle.laws.specs.Surveys.{dataSectors, length-listed, listed-below, length-owners, census-is}
+use Rattle.census_laws.specs.Marks.{once-is}
+
+-- ---- owners
+
+-- a live slot's number, where the slots os are counted from k on
+abbrev pub NumberOf : List ℕ → ℕ → List ℕ → ℕ → Type 0
+NumberOf img k os v = (j : ℕ) × (j < length os) × (v ≡ k + j) × (live img (getD os j 0) ≡ true)
+
+each-replicate : (P : ℕ → Type 0) (n v : ℕ) → P v → Each P (replicate n v)
+each-replicate P zero v p = tt
+each-replicate P (suc n) v p = (p, each-replicate P n v p)
+
+file-owned : (img : List ℕ) (o k : ℕ) (os : List ℕ) → Each (NumberOf img k (o ∷ os)) (fileOwners img o k)
+unfolding fileOwners
+file-owned img o k os = go (live img o) refl
+  where
+    go : (b : Bool) → live img o ≡ b → Each (NumberOf img k (o ∷ os)) (pick b (replicate (sizeAt img o) k) [])
+    go true e = each-replicate (NumberOf img k (o ∷ os)) (sizeAt img o) k (0, omega arith, omega arith, e)
+    go false e = tt
+
+files-owned : (img : List ℕ) (k : ℕ) (os : List ℕ) → Each (NumberOf img k os) (filesOwners img k os)
+unfolding filesOwners
+files-owned img k [] = tt
+files-owned img k (o ∷ os) =
+    each-append (NumberOf img k (o ∷ os)) (fileOwners img o k) (filesOwners img (k + 1) os) (file-owned img o k os)
+    (each-so (NumberOf img (k + 1) os) (NumberOf img k (o ∷ os)) (filesOwners img (k + 1) os)
+    (λ v p. (suc (p .0), omega (arith, p .1), omega (arith, p .2), p .3)) (files-owned img (k + 1) os))
+
+-- 0, or the number of a live slot
+abbrev pub Owner : List ℕ → ℕ → ℕ → Type 0
+Owner img S v = (v ≡ 0) ⊎ NumberOf img 1 (slots img S) v
+
+owners-owned : (img : List ℕ) (S : ℕ) → Each (Owner img S) (owners img S)
+unfolding owners
+owners-owned img S =
+    each-append (Owner img S) (replicate (freeCount img) 0) (filesOwners img 1 (slots img S))
+    (each-replicate (Owner img S) (freeCount img) 0 (inl refl))
+    (each-so (NumberOf img 1 (slots img S)) (Owner img S) (filesOwners img 1 (slots img S)) (λ v p. inr p) (files-owned img 1 (slots img S)))
+
+-- ---- the accepted census
+
+pub record Accepted (img xs ys : List ℕ) : Type 0 where
+  pub numbers : length xs ≡ dataSectors img
+  pub once : (k : ℕ) → k < dataSectors img → tally k xs ≡ 1
+  pub only : (i : ℕ) → i < length xs → getD xs i 0 < dataSectors img
+  pub beside : length ys ≡ length xs
+  pub owner : (i : ℕ) → i < length ys → Owner img (perTrack img) (getD ys i 0)
+
+pub accepted : (img xs ys xs₀ ys₀ : List ℕ) → survey 0 xs ys ≡ census img xs₀ ys₀ → Accepted img xs ys
+accepted img xs ys xs₀ ys₀ e =
+    let r = census-is img xs₀ ys₀ 0 xs ys (sym e) in
+    let s = r .sane refl in
+    let S = perTrack img in
+    let lists = r .accepted refl in
+    rw (lists .0, lists .1)
+    (record {
+      numbers = length-listed img (lastTrack img) S s;
+      once = once-is (dataSectors img) (listed img S) (s .once);
+      only = λ i b. each-at (λ (x : ℕ). x < dataSectors img) (listed img S) i 0 (listed-below img (lastTrack img) S s) b;
+      beside = length-owners img S;
+      owner = λ i b. each-at (Owner img S) (owners img S) i 0 (owners-owned img S) b;
+    })
+
+-- ---- no second outcome fits: answer and both outputs
+abbrev pub SingleSurvey : Survey → Type 0
+SingleSurvey s = (e e′ : ℕ) (xs xs′ ys ys′ : List ℕ) → survey e xs ys ≡ s → survey e′ xs′ ys′ ≡ s → (e ≡ e′) × (xs ≡ xs′) × (ys ≡ ys′)
+
+pub single-survey : (s : Survey) → SingleSurvey s
+single-survey s e e′ xs xs′ ys ys′ p q = (cc, cc, cc)

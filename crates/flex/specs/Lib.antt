@@ -1,0 +1,2 @@
+-- What the host gets.
+pub mod Hosted

@@ -1,0 +1,19 @@
+-- No second outcome fits the promise of a public function of this crate.
+use mathlib.Core.List.{List}
+use Prim.Native.Nat.{ℕ}
+use lib.ListN.{length, replicate}
+use Rattle.rules.specs.Bytes.{over, one, zeros}
+use Rattle.laws.specs.Single.{Single, single}
+use Rattle.census_laws.specs.Marks.{marking, SingleMarked, single-marked}
+
+pub place-single : (out : List ℕ) (at v : ℕ) → Single (over out at (one v))
+place-single out at v = single (over out at (one v))
+
+pub run-single : (out : List ℕ) (at n v : ℕ) → Single (over out at (replicate n v))
+run-single out at n v = single (over out at (replicate n v))
+
+pub fill-single : (out : List ℕ) (v : ℕ) → Single (replicate (length out) v)
+fill-single out v = single (replicate (length out) v)
+
+pub are-new-single : (numbers marks : List ℕ) → SingleMarked (marking (zeros (length marks)) numbers)
+are-new-single numbers marks = single-marked (marking (zeros (length marks)) numbers)

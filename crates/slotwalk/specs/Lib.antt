@@ -1,0 +1,2 @@
+-- What is proved of the promises of public functions.
+pub mod Promises
