@@ -1,5 +1,5 @@
 -- Each way through the functions of this crate, and each turn and way out of their loops. In a loop's laws w is the answer.
-use mathlib.Core.Path.{_≡_, refl, sym, ap, _∙_}
+use mathlib.Core.Path.{_≡_, refl, ap, _∙_}
 use mathlib.Core.Bool.{Bool, true, false}
 use mathlib.Core.List.{List, []}
 use Prim.Native.Nat.{ℕ, _+_, _-_, _*_, _/_, _%_, _≤_, _<_}
@@ -21,7 +21,7 @@ use Rattle.rules.specs.declared.Lookup.the-variants.{At, Missing, Broken}
 use Rattle.laws.specs.Bytes.{same-no, same-on}
 use Rattle.laws.specs.Walk.{ends-more, ends-none, sectors-more, sectors-none, slots-more, slots-none}
 use Rattle.laws.specs.Slots.{further, scan-append}
-use Rattle.directory.specs.Sought.{looked, sought, behind}
+use Rattle.directory.specs.Sought.{looked, sought}
 
 -- ---- links
 
@@ -271,16 +271,3 @@ module _ (img : List ℕ) (S slot : ℕ) {a : Next} (h : 232 ≤ slot % 256) (e 
   pub behind-to : {k : ℕ} → a ≡ To k → At (256 * k + 16) ≡ slotBehind img S slot
   unfolding slotBehind
   behind-to j = rw (le-ltb (slot % 256) 232 h, ← e, j) refl
-
-module _ (img : List ℕ) (S a d : ℕ) {p : Lookup} (e : p ≡ placed img S a d) where
-  pub behind-at : {slot : ℕ} {o : Lookup} → p ≡ At slot → o ≡ slotBehind img S slot → o ≡ behind img S a d
-  unfolding behind
-  behind-at j q = rw (← e, j) q
-
-  pub behind-missing : p ≡ Missing → Broken ≡ behind img S a d
-  unfolding behind
-  behind-missing j = rw (← e, j) refl
-
-  pub behind-broken : p ≡ Broken → Broken ≡ behind img S a d
-  unfolding behind
-  behind-broken j = rw (← e, j) refl

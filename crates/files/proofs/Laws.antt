@@ -9,17 +9,15 @@ use borrow.Author.Tests.{ne-eqb}
 use Rattle.rules.specs.Bytes.{wordAt, part, over, one, zeros, same}
 use Rattle.rules.specs.Stores.{puts}
 use Rattle.rules.specs.Image.{index, isSector}
-use Rattle.rules.specs.Directory.{placed, placeOf, slotBehind}
-use Rattle.rules.specs.Outcome.{Outcome, onSlot, Out, out, settled, left}
+use Rattle.rules.specs.Directory.{placed, placeOf}
+use Rattle.rules.specs.Outcome.{Out, out, settled, left}
 use Rattle.rules.specs.Block.{inUse}
-use Rattle.rules.specs.Files.{opened, shown, nextSlot, readSector}
+use Rattle.rules.specs.Files.{opened, nextSlot, readSector}
 use Rattle.rules.specs.declared.Lookup.{Lookup}
-use Rattle.rules.specs.declared.Lookup.the-variants.{At, Missing, Broken}
 use Rattle.laws.specs.Walk.{slot-begins}
-use Rattle.directory.specs.Sought.{onPlaced, behind}
 use Rattle.entries.specs.Entries.{newOf, bytesOf, new-bytes}
 use Rattle.entries.specs.declared.Entry.{Entry}
-use Rattle.files.specs.Parts.{opening, openReadAt, openWriteAt, firstSlot, furtherSlot, renamed}
+use Rattle.files.specs.Parts.{opening, openReadAt, openWriteAt, firstSlot, slotAfter, furtherSlot, renamed}
 
 -- ---- open
 
@@ -54,16 +52,10 @@ module _ (tab : List ℕ) (p : ℕ) {a : ℕ} (e : a ≡ getD tab p 0) where
       unfolding part zeros same
       none-set j = rw (← e, h, ← d, k, ← g, j) refl
 
--- the slot behind, by the numbers that were loaded
-pub behind-loaded : (img tab : List ℕ) (S p q : ℕ) {v : Lookup} {a d : ℕ} → a ≡ wordAt tab p → d ≡ getD tab q 0 → v ≡ behind img S a d
-    → v ≡ behind img S (wordAt tab p) (getD tab q 0)
-behind-loaded img tab S p q e g h = rw (← e, ← g) h
-
-further : (l : Lookup) (g : ℕ → Lookup) (next : ℕ → Outcome)
-    → onSlot (onPlaced l g) 5 8 next ≡ onSlot l 5 5 (λ slot. onSlot (g slot) 5 8 next)
-further (At slot) g next = refl
-further Missing g next = refl
-further Broken g next = refl
+-- the slot of a place, by the numbers that were loaded
+pub placed-loaded : (img tab : List ℕ) (S p q : ℕ) {v : Lookup} {a d : ℕ} → a ≡ wordAt tab p → d ≡ getD tab q 0 → v ≡ placed img S a d
+    → v ≡ placed img S (wordAt tab p) (getD tab q 0)
+placed-loaded img tab S p q e g h = rw (← e, ← g) h
 
 module _ (img tab : List ℕ) (S f : ℕ) {v : Bool} {o : Out} (e : v ≡ same (part tab (f + 47) 3) (zeros 3)) where
   pub next-first : v ≡ true → o ≡ left img tab f (settled (firstSlot img S)) → o ≡ left img tab f (settled (nextSlot img tab S f))
@@ -71,9 +63,8 @@ module _ (img tab : List ℕ) (S f : ℕ) {v : Bool} {o : Out} (e : v ≡ same (
   next-first h q = rw (← e, h) q
 
   pub next-further : v ≡ false → o ≡ left img tab f (settled (furtherSlot img tab S f)) → o ≡ left img tab f (settled (nextSlot img tab S f))
-  unfolding nextSlot furtherSlot behind
-  next-further h q =
-      rw (← e, h, ← further (placed img S (wordAt tab (f + 47)) (getD tab (f + 49) 0)) (slotBehind img S) (shown img)) q
+  unfolding nextSlot furtherSlot slotAfter
+  next-further h q = rw (← e, h) q
 
 -- ---- read sector
 

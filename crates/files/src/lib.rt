@@ -7,7 +7,7 @@ ghost use Rattle.rules.specs.Stores.{puts};
 ghost use Rattle.rules.specs.Outcome.{out, left, settled};
 ghost use Rattle.rules.specs.Block.{placeIn};
 ghost use Rattle.rules.specs.Files.{openRead, openWrite, rewind, openDirectory, shown, nextSlot, readSector, delete, rename};
-ghost use Rattle.files.specs.Parts.{opening, openReadAt, openWriteAt, openWriteNew, firstSlot, furtherSlot, deleteAt, renamed, renameAt};
+ghost use Rattle.files.specs.Parts.{opening, openReadAt, openWriteAt, openWriteNew, firstSlot, slotAfter, furtherSlot, deleteAt, renamed, renameAt};
 use blocks::in_use;
 use blocks::refuse;
 use cells::clear;
@@ -17,10 +17,11 @@ use cells::get2;
 use cells::put;
 use cells::put2;
 use cells::store;
-use directory::behind;
 use directory::directory_right;
 use directory::find;
+use directory::placed;
 use directory::put_place;
+use directory::slot_behind;
 use directory::vacancy;
 use disk::index_of;
 use disk::is_sector;
@@ -196,16 +197,28 @@ fn first_slot(image: &[u8], table: &mut [u8], per: u8, f: u16) -> u8
     show(image, table, f, 256 * 4 + 16)
 }
 
+// The slot behind a slot shown.
+fn slot_after(image: &[u8], table: &mut [u8], per: u8, f: u16, slot: u32) -> u8
+    ensures { λ r. ⌜ out r 0 (now (image .entry)) (now (table .exit)) ≡ left (now (image .entry)) (now (table .entry)) f (settled (slotAfter (now (image .entry)) per slot)) ⌝ }
+{
+    let next = slot_behind(image, per, slot);
+    match next {
+        Lookup::At(after) => show(image, table, f, after),
+        Lookup::Missing => refuse(table, f, 8),
+        Lookup::Broken => refuse(table, f, 5),
+    }
+}
+
 // The slot behind the block's place shown.
 fn further_slot(image: &[u8], table: &mut [u8], per: u8, f: u16) -> u8
     ensures { λ r. ⌜ out r 0 (now (image .entry)) (now (table .exit)) ≡ left (now (image .entry)) (now (table .entry)) f (settled (furtherSlot (now (image .entry)) (now (table .entry)) per f)) ⌝ }
 {
     let a = get2(table, f as usize + PLACE);
     let d = get(table, f as usize + (PLACE + 2));
-    let next = behind(image, per, a, d);
-    match next {
-        Lookup::At(slot) => show(image, table, f, slot),
-        Lookup::Missing => refuse(table, f, 8),
+    let here = placed(image, per, a, d);
+    match here {
+        Lookup::At(slot) => slot_after(image, table, per, f, slot),
+        Lookup::Missing => refuse(table, f, 5),
         Lookup::Broken => refuse(table, f, 5),
     }
 }
