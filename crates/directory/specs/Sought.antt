@@ -15,7 +15,7 @@ looked free img name slot = pick free (vacant img slot) (named img name slot)
 unfoldable pub sought : Bool → List ℕ → ℕ → List ℕ → Lookup
 sought free img S name = inDirectory img S (looked free img name)
 
-abbrev onPlaced : Lookup → (ℕ → Lookup) → Lookup
+abbrev pub onPlaced : Lookup → (ℕ → Lookup) → Lookup
 onPlaced (At slot) next = next slot
 onPlaced Missing next = Broken
 onPlaced Broken next = Broken

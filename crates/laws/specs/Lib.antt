@@ -1,5 +1,6 @@
 -- Laws of the definitions of `rules`, which proofs cite.
 pub mod Tests
+pub mod Ranges
 pub mod Bytes
 pub mod Single
 pub mod Walk
@@ -14,3 +15,5 @@ pub mod Effects
 pub mod Counting
 pub mod Surveys
 pub mod Texts
+pub mod Parts
+pub mod Settled

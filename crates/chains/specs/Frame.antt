@@ -1,0 +1,87 @@
+-- Frames: what stores into the information record, into some data sectors and into one slot leave as it is.
+use mathlib.Core.Path.{_≡_, sym, ap}
+use mathlib.Core.Logic.{_≢_}
+use mathlib.Core.List.{List, [], _∷_}
+use Prim.Native.Nat.{ℕ, _+_, _*_, _≤_, _<_}
+use native.Mathlib.Omega.{arith}
+use lib.ListN.{length, getD}
+use Rattle.rules.specs.Stores.{Store, store, stored}
+use Rattle.rules.specs.Directory.{slotsOf}
+use Rattle.chains.specs.Tally.{tally}
+use Rattle.laws.specs.Stores.{length-stored}
+use Rattle.chains.specs.Stored.{placeAt, bytesOf, Off, stored-off}
+use Rattle.chains.specs.Directory.{Listing, Spot, spot, slots-apart}
+
+-- a store into the record, into one of the sectors ks, or into the slot at o; or of nothing
+pub data Lies (S : ℕ) (ks : List ℕ) (o : ℕ) : Store → Type 0 where
+  in-record : (vs : List ℕ) → length vs ≡ 6 → Lies S ks o (store 2 29 vs)
+  in-sector : (k i : ℕ) (vs : List ℕ) → S ≤ k → 1 ≤ tally k ks → i + length vs ≤ 256 → Lies S ks o (store k i vs)
+  in-slot : (k i : ℕ) (vs : List ℕ) → o ≤ 256 * k + i → 256 * k + i + length vs ≤ o + 24 → Lies S ks o (store k i vs)
+  of-nothing : (k i : ℕ) → Lies S ks o (store k i [])
+
+abbrev pub AllLie : ℕ → List ℕ → ℕ → List Store → Type 0
+AllLie S ks o [] = Unit {0}
+AllLie S ks o (w ∷ ws) = Lies S ks o w × AllLie S ks o ws
+
+-- of slot s of the directory ds
+pub record Frame (S : ℕ) (ds m m′ ks : List ℕ) (s : ℕ) : Type 0 where
+  pub len : length m′ ≡ length m
+  pub shape : (p : ℕ) → 550 ≤ p → p < 552 → getD m′ p 0 ≡ getD m p 0
+  pub links : (k i : ℕ) → 4 ≤ k → k < S → i < 2 → getD m′ (256 * k + i) 0 ≡ getD m (256 * k + i) 0
+  pub slots : (s′ i : ℕ) → s′ < length (slotsOf ds) → s′ ≢ s → i < 24 → getD m′ (getD (slotsOf ds) s′ 0 + i) 0 ≡ getD m (getD (slotsOf ds) s′ 0 + i) 0
+  pub sectors : (j i : ℕ) → S ≤ j → tally j ks ≡ 0 → i < 256 → getD m′ (256 * j + i) 0 ≡ getD m (256 * j + i) 0
+
+-- no slot reaches into a link
+below : (k j r i : ℕ) → 16 ≤ r → r ≤ 232 → i < 2 → 256 * k + r ≤ 256 * j + i → 256 * j + i < 256 * k + r + 24 → ⊥
+below k j r i a b c u v = let q : k < j = omega arith in omega arith
+
+module _ (S : ℕ) (s5 : 5 ≤ S) (ds : List ℕ) (d : Listing S ds) (s : ℕ) (hs : s < length (slotsOf ds)) where
+  abbrev o : ℕ
+  o = getD (slotsOf ds) s 0
+
+  w : Spot S ds s o
+  w = spot S ds d s hs
+
+  off-shape : (ks : List ℕ) (t : Store) (p : ℕ) → 550 ≤ p → p < 552 → Lies S ks o t → placeAt t ≤ p → p < placeAt t + length (bytesOf t) → ⊥
+  off-shape ks t p a b (in-record vs l) = λ x y. omega arith
+  off-shape ks t p a b (in-sector k i vs l n e) = λ x y. omega arith
+  off-shape ks t p a b (in-slot k i vs l e) = λ u v. omega (arith, w .place, w .low)
+  off-shape ks t p a b (of-nothing k u) = λ x y. omega arith
+
+  off-link : (ks : List ℕ) (t : Store) (j i : ℕ) → 4 ≤ j → j < S → i < 2 → Lies S ks o t → placeAt t ≤ 256 * j + i
+      → 256 * j + i < placeAt t + length (bytesOf t) → ⊥
+  off-link ks t j i a b c (in-record vs l) = λ x y. omega arith
+  off-link ks t j i a b c (in-sector k h vs l n e) = λ x y. omega arith
+  off-link ks t j i a b c (in-slot k h vs l e) =
+      λ u v. below (w .k) j (16 + 24 * w .i) i (omega arith) (omega (arith, w .row)) c (omega (arith, w .place)) (omega (arith, w .place))
+  off-link ks t j i a b c (of-nothing k u) = λ x y. omega arith
+
+  off-slot : (ks : List ℕ) (t : Store) (s′ i : ℕ) → s′ < length (slotsOf ds) → s′ ≢ s → i < 24 → Lies S ks o t
+      → placeAt t ≤ getD (slotsOf ds) s′ 0 + i → getD (slotsOf ds) s′ 0 + i < placeAt t + length (bytesOf t) → ⊥
+  off-slot ks t s′ i h ne b (in-record vs l) = let w′ = spot S ds d s′ h in λ u v. omega (arith, w′ .place, w′ .low)
+  off-slot ks t s′ i h ne b (in-sector k j vs l n e) = let w′ = spot S ds d s′ h in λ u v. omega (arith, w′ .place, w′ .high, w′ .row)
+  off-slot ks t s′ i h ne b (in-slot k j vs l e) = λ u v. slots-apart S ds d s s′ hs h (λ q. ne (sym q)) i b (omega arith) (omega arith)
+  off-slot ks t s′ i h ne b (of-nothing k u) = λ x y. omega arith
+
+  off-sector : (ks : List ℕ) (t : Store) (j i : ℕ) → S ≤ j → tally j ks ≡ 0 → i < 256 → Lies S ks o t → placeAt t ≤ 256 * j + i
+      → 256 * j + i < placeAt t + length (bytesOf t) → ⊥
+  off-sector ks t j i a b c (in-record vs l) = λ x y. omega arith
+  off-sector ks t j i a b c (in-sector k h vs l n e) = λ u v. let q : k ≡ j = omega arith in let y : tally k ks ≡ tally j ks = ap (λ (x : ℕ). tally x ks) q in omega (arith, y)
+  off-sector ks t j i a b c (in-slot k h vs l e) = λ u v. omega (arith, w .place, w .row, w .high)
+  off-sector ks t j i a b c (of-nothing k u) = λ x y. omega arith
+
+  all-off : (ks : List ℕ) (p : ℕ) → ((t : Store) → Lies S ks o t → placeAt t ≤ p → p < placeAt t + length (bytesOf t) → ⊥) → (ws : List Store)
+      → AllLie S ks o ws → Off p ws
+  all-off ks p g [] a = tt
+  all-off ks p g (t ∷ ws) a = (g t (a .0), all-off ks p g ws (a .1))
+
+  -- THE FRAME of such stores
+  pub framed : (m ks : List ℕ) (ws : List Store) → AllLie S ks o ws → Frame S ds m (stored m ws) ks s
+  framed m ks ws a =
+      record {
+        len = length-stored ws m;
+        shape = λ p b c. stored-off ws m p (all-off ks p (λ t. off-shape ks t p b c) ws a);
+        links = λ k i b c e. stored-off ws m (256 * k + i) (all-off ks (256 * k + i) (λ t. off-link ks t k i b c e) ws a);
+        slots = λ s′ i h ne b. stored-off ws m (getD (slotsOf ds) s′ 0 + i) (all-off ks (getD (slotsOf ds) s′ 0 + i) (λ t. off-slot ks t s′ i h ne b) ws a);
+        sectors = λ j i b c e. stored-off ws m (256 * j + i) (all-off ks (256 * j + i) (λ t. off-sector ks t j i b c e) ws a);
+      }

@@ -1,0 +1,9 @@
+-- Chains by links, and "each data sector once".
+pub mod Tally
+pub mod Once
+pub mod Stored
+pub mod Addresses
+pub mod Chain
+pub mod Directory
+pub mod Frame
+pub mod Walk

@@ -1,0 +1,322 @@
+// The functions on whole files and on the directory: open for reading and for writing, rewind, open directory, next slot, read
+// sector, delete, rename, on the block that begins at f. Each loads, tests in the rules' order and stores; byte 1 is the last store.
+ghost use mathlib.Core.Path.{_≡_};
+ghost use mathlib.Core.List.{[]};
+ghost use Rattle.rules.specs.Bytes.{zeros, same};
+ghost use Rattle.rules.specs.Stores.{puts};
+ghost use Rattle.rules.specs.Outcome.{out, left, settled};
+ghost use Rattle.rules.specs.Block.{placeIn};
+ghost use Rattle.rules.specs.Files.{openRead, openWrite, rewind, openDirectory, shown, nextSlot, readSector, delete, rename};
+ghost use Rattle.files.specs.Parts.{opening, openReadAt, openWriteAt, openWriteNew, firstSlot, furtherSlot, deleteAt, renamed, renameAt};
+use blocks::in_use;
+use blocks::refuse;
+use cells::clear;
+use cells::copy;
+use cells::get;
+use cells::get2;
+use cells::put;
+use cells::put2;
+use cells::store;
+use directory::behind;
+use directory::directory_right;
+use directory::find;
+use directory::put_place;
+use directory::vacancy;
+use disk::index_of;
+use disk::is_sector;
+use disk::load_sector;
+use entries::is_delete_protected;
+use entries::is_write_protected;
+use entries::name_at;
+use entries::new_entry;
+use entries::put_entry;
+use names::legal_name;
+use removal::remove;
+use rules::Lookup;
+
+// Where the fields of a block stand.
+const FUNCTION: usize = 0;
+
+const ERROR: usize = 1;
+
+const ACTIVITY: usize = 2;
+
+const NAME: usize = 4;
+
+const POSITION: usize = 30;
+
+const INDEX: usize = 34;
+
+const PLACE: usize = 47;
+
+const NEW_NAME: usize = 53;
+
+const COMPRESSION: usize = 59;
+
+const BUFFER: usize = 64;
+
+// What opening stores behind the entry.
+fn open_block(table: &mut [u8], f: u16, activity: u8, slot: u32)
+    ensures { λ _. ⌜ now (table .exit) ≡ puts (now (table .entry)) f (opening activity slot) ⌝ }
+{
+    put(table, f as usize + FUNCTION, 0);
+    clear(table, f as usize + POSITION, 6);
+    put(table, f as usize + ACTIVITY, activity);
+    put_place(table, f as usize + PLACE, slot);
+    put(table, f as usize + COMPRESSION, 255);
+    put(table, f as usize + ERROR, 0);
+}
+
+// A slot opened for reading.
+fn open_read_at(image: &[u8], table: &mut [u8], f: u16, slot: u32) -> u8
+    ensures { λ r. ⌜ out r 0 (now (image .entry)) (now (table .exit)) ≡ left (now (image .entry)) (now (table .entry)) f (settled (openReadAt (now (image .entry)) (now (table .entry)) slot)) ⌝ }
+{
+    let used = in_use(false, table, slot);
+    if used {
+        return refuse(table, f, 2);
+    }
+    copy(table, f as usize + NAME, image, slot as usize, 24);
+    open_block(table, f, 1, slot);
+    0
+}
+
+// 1 open read.
+pub fn open_read(image: &[u8], table: &mut [u8], per: u8, f: u16) -> u8
+    ensures { λ r. ⌜ out r 0 (now (image .entry)) (now (table .exit)) ≡ left (now (image .entry)) (now (table .entry)) f (settled (openRead (now (image .entry)) (now (table .entry)) per f)) ⌝ }
+{
+    let legal = legal_name(table, f as usize + NAME);
+    if !legal {
+        return refuse(table, f, 21);
+    }
+    let found = find(image, per, table, f as usize + NAME);
+    match found {
+        Lookup::At(slot) => open_read_at(image, table, f, slot),
+        Lookup::Missing => refuse(table, f, 4),
+        Lookup::Broken => refuse(table, f, 5),
+    }
+}
+
+// A new entry in a slot, opened for writing.
+fn open_write_at(image: &mut [u8], table: &mut [u8], f: u16, slot: u32) -> u8
+    ensures { λ r. ⌜ out r 0 (now (image .exit)) (now (table .exit)) ≡ left (now (image .entry)) (now (table .entry)) f (settled (openWriteAt (now (table .entry)) f slot)) ⌝ }
+{
+    let entry = new_entry(table, f);
+    put_entry(image, slot, entry);
+    put_entry(table, f as u32 + 4, entry);
+    open_block(table, f, 2, slot);
+    0
+}
+
+// A slot for a new name, opened for writing.
+fn open_write_new(image: &mut [u8], table: &mut [u8], per: u8, f: u16) -> u8
+    ensures { λ r. ⌜ out r 0 (now (image .exit)) (now (table .exit)) ≡ left (now (image .entry)) (now (table .entry)) f (settled (openWriteNew (now (image .entry)) (now (table .entry)) per f)) ⌝ }
+{
+    let found = vacancy(image, per);
+    match found {
+        Lookup::At(slot) => open_write_at(image, table, f, slot),
+        Lookup::Missing => refuse(table, f, 6),
+        Lookup::Broken => refuse(table, f, 5),
+    }
+}
+
+// 2 open write.
+pub fn open_write(image: &mut [u8], table: &mut [u8], per: u8, f: u16) -> u8
+    ensures { λ r. ⌜ out r 0 (now (image .exit)) (now (table .exit)) ≡ left (now (image .entry)) (now (table .entry)) f (settled (openWrite (now (image .entry)) (now (table .entry)) per f)) ⌝ }
+{
+    let legal = legal_name(table, f as usize + NAME);
+    if !legal {
+        return refuse(table, f, 21);
+    }
+    let found = find(image, per, table, f as usize + NAME);
+    match found {
+        Lookup::At(_) => refuse(table, f, 3),
+        Lookup::Missing => open_write_new(image, table, per, f),
+        Lookup::Broken => refuse(table, f, 5),
+    }
+}
+
+// 5 rewind.
+pub fn rewind(table: &mut [u8], f: u16) -> u8
+    ensures { λ r. ⌜ out r 0 [] (now (table .exit)) ≡ left [] (now (table .entry)) f (settled rewind) ⌝ }
+{
+    put(table, f as usize + FUNCTION, 0);
+    put2(table, f as usize + POSITION, 0);
+    put(table, f as usize + INDEX, 0);
+    put(table, f as usize + ERROR, 0);
+    0
+}
+
+// 6 open directory.
+pub fn open_directory(table: &mut [u8], f: u16) -> u8
+    ensures { λ r. ⌜ out r 0 [] (now (table .exit)) ≡ left [] (now (table .entry)) f (settled openDirectory) ⌝ }
+{
+    put(table, f as usize + ACTIVITY, 16);
+    clear(table, f as usize + PLACE, 3);
+    put(table, f as usize + ERROR, 0);
+    0
+}
+
+// A slot shown in the block, and its place.
+fn show(image: &[u8], table: &mut [u8], f: u16, slot: u32) -> u8
+    ensures { λ r. ⌜ out r 0 (now (image .entry)) (now (table .exit)) ≡ left (now (image .entry)) (now (table .entry)) f (settled (shown (now (image .entry)) slot)) ⌝ }
+{
+    put_place(table, f as usize + PLACE, slot);
+    copy(table, f as usize + NAME, image, slot as usize, 24);
+    put(table, f as usize + ERROR, 0);
+    0
+}
+
+// Is the block's place 0,0,0?
+fn is_before_first(table: &[u8], f: u16) -> bool
+    ensures { λ r. ⌜ r ≡ same (placeIn (now (table .entry)) f) (zeros 3) ⌝ }
+{
+    let track = get(table, f as usize + PLACE);
+    if track != 0 {
+        return false;
+    }
+    let sector = get(table, f as usize + PLACE + 1);
+    if sector != 0 {
+        return false;
+    }
+    let displacement = get(table, f as usize + PLACE + 1 + 1);
+    if displacement != 0 {
+        return false;
+    }
+    true
+}
+
+// The directory's first slot shown.
+fn first_slot(image: &[u8], table: &mut [u8], per: u8, f: u16) -> u8
+    ensures { λ r. ⌜ out r 0 (now (image .entry)) (now (table .exit)) ≡ left (now (image .entry)) (now (table .entry)) f (settled (firstSlot (now (image .entry)) per)) ⌝ }
+{
+    let right = directory_right(image, per);
+    if !right {
+        return refuse(table, f, 5);
+    }
+    show(image, table, f, 256 * 4 + 16)
+}
+
+// The slot behind the block's place shown.
+fn further_slot(image: &[u8], table: &mut [u8], per: u8, f: u16) -> u8
+    ensures { λ r. ⌜ out r 0 (now (image .entry)) (now (table .exit)) ≡ left (now (image .entry)) (now (table .entry)) f (settled (furtherSlot (now (image .entry)) (now (table .entry)) per f)) ⌝ }
+{
+    let a = get2(table, f as usize + PLACE);
+    let d = get(table, f as usize + (PLACE + 2));
+    let next = behind(image, per, a, d);
+    match next {
+        Lookup::At(slot) => show(image, table, f, slot),
+        Lookup::Missing => refuse(table, f, 8),
+        Lookup::Broken => refuse(table, f, 5),
+    }
+}
+
+// 7 next slot.
+pub fn next_slot(image: &[u8], table: &mut [u8], per: u8, f: u16) -> u8
+    ensures { λ r. ⌜ out r 0 (now (image .entry)) (now (table .exit)) ≡ left (now (image .entry)) (now (table .entry)) f (settled (nextSlot (now (image .entry)) (now (table .entry)) per f)) ⌝ }
+{
+    let first = is_before_first(table, f);
+    if first {
+        return first_slot(image, table, per, f);
+    }
+    further_slot(image, table, per, f)
+}
+
+// 9 read sector.
+pub fn read_sector(image: &[u8], table: &mut [u8], last: u8, per: u8, f: u16) -> u8
+    ensures { λ r. ⌜ out r 0 (now (image .entry)) (now (table .exit)) ≡ left (now (image .entry)) (now (table .entry)) f (settled (readSector (now (image .entry)) (now (table .entry)) last per f)) ⌝ }
+{
+    let a = get2(table, f as usize + POSITION);
+    let there = is_sector(last, per, a);
+    if !there {
+        return refuse(table, f, 9);
+    }
+    load_sector(table, f as usize + BUFFER, image, index_of(per, a));
+    put(table, f as usize + ERROR, 0);
+    0
+}
+
+// A file deleted, once its slot is found.
+fn delete_at(image: &mut [u8], table: &mut [u8], last: u8, per: u8, f: u16, slot: u32) -> u8
+    ensures { λ r. ⌜ out r 0 (now (image .exit)) (now (table .exit)) ≡ left (now (image .entry)) (now (table .entry)) f (settled (deleteAt (now (image .entry)) (now (table .entry)) last per slot)) ⌝ }
+{
+    let used = in_use(true, table, slot);
+    if used {
+        return refuse(table, f, 2);
+    }
+    let kept = is_delete_protected(image, slot);
+    if kept {
+        return refuse(table, f, 12);
+    }
+    let fixed = is_write_protected(image, slot);
+    if fixed {
+        return refuse(table, f, 11);
+    }
+    remove(image, table, last, per, f, slot)
+}
+
+// 12 delete.
+pub fn delete(image: &mut [u8], table: &mut [u8], last: u8, per: u8, f: u16) -> u8
+    ensures { λ r. ⌜ out r 0 (now (image .exit)) (now (table .exit)) ≡ left (now (image .entry)) (now (table .entry)) f (settled (delete (now (image .entry)) (now (table .entry)) last per f)) ⌝ }
+{
+    let legal = legal_name(table, f as usize + NAME);
+    if !legal {
+        return refuse(table, f, 21);
+    }
+    let found = find(image, per, table, f as usize + NAME);
+    match found {
+        Lookup::At(slot) => delete_at(image, table, last, per, f, slot),
+        Lookup::Missing => refuse(table, f, 4),
+        Lookup::Broken => refuse(table, f, 5),
+    }
+}
+
+// The new name stored in slot and block.
+fn store_name(image: &mut [u8], table: &mut [u8], f: u16, slot: u32) -> u8
+    ensures { λ r. ⌜ out r 0 (now (image .exit)) (now (table .exit)) ≡ left (now (image .entry)) (now (table .entry)) f (settled (renamed (now (table .entry)) f slot)) ⌝ }
+{
+    let name = name_at(table, f as usize + NEW_NAME);
+    store(image, slot as usize, &name);
+    store(table, f as usize + NAME, &name);
+    put(table, f as usize + ERROR, 0);
+    0
+}
+
+// A file renamed, once its slot is found.
+fn rename_at(image: &mut [u8], table: &mut [u8], per: u8, f: u16, slot: u32) -> u8
+    ensures { λ r. ⌜ out r 0 (now (image .exit)) (now (table .exit)) ≡ left (now (image .entry)) (now (table .entry)) f (settled (renameAt (now (image .entry)) (now (table .entry)) per f slot)) ⌝ }
+{
+    let busy = in_use(true, table, slot);
+    if busy {
+        return refuse(table, f, 2);
+    }
+    let fixed = is_write_protected(image, slot);
+    if fixed {
+        return refuse(table, f, 11);
+    }
+    let found = find(image, per, table, f as usize + NEW_NAME);
+    match found {
+        Lookup::At(_) => refuse(table, f, 3), // its own name too
+        Lookup::Missing => store_name(image, table, f, slot),
+        Lookup::Broken => refuse(table, f, 5),
+    }
+}
+
+// 13 rename.
+pub fn rename(image: &mut [u8], table: &mut [u8], per: u8, f: u16) -> u8
+    ensures { λ r. ⌜ out r 0 (now (image .exit)) (now (table .exit)) ≡ left (now (image .entry)) (now (table .entry)) f (settled (rename (now (image .entry)) (now (table .entry)) per f)) ⌝ }
+{
+    let legal = legal_name(table, f as usize + NAME);
+    if !legal {
+        return refuse(table, f, 21);
+    }
+    let proper = legal_name(table, f as usize + NEW_NAME);
+    if !proper {
+        return refuse(table, f, 21);
+    }
+    let found = find(image, per, table, f as usize + NAME);
+    match found {
+        Lookup::At(slot) => rename_at(image, table, per, f, slot),
+        Lookup::Missing => refuse(table, f, 4),
+        Lookup::Broken => refuse(table, f, 5),
+    }
+}
