@@ -1,11 +1,10 @@
 -- A number in decimal, by how many digits it has; lines of two numbers.
-use mathlib.Core.Path.{_≡_, refl, sym, ap, ap₂, _∙_}
+use mathlib.Core.Path.{_≡_, refl}
 use mathlib.Core.List.{List, [], _∷_, _++_}
 use Prim.Native.Nat.{ℕ, _+_, _/_, _≤_, _<_}
 use native.Mathlib.Omega.{arith}
-use lib.ListN.{length, length-append}
 use borrow.Author.Tests.{lt-ltb, le-ltb}
-use Rattle.rules.specs.Bytes.{pick, over, one}
+use Rattle.rules.specs.Bytes.{over, one}
 use Rattle.rules.specs.Text.{digit, decimalBy, decimal, line}
 use Rattle.census_tool.specs.Written.{texted, written, written-then, written-one}
 

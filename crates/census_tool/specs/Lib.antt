@@ -3,3 +3,4 @@ pub mod Written
 pub mod Decimal
 pub mod Lines
 pub mod Printed
+pub mod Promises

@@ -1,14 +1,13 @@
 -- Lines written one behind the other, turn by turn; the report of a survey.
 use mathlib.Core.Path.{_≡_, refl, sym, ap, ap₂, _∙_}
-use mathlib.Core.Bool.{Bool, true, false}
 use mathlib.Core.List.{List, [], _∷_, _++_}
-use Prim.Native.Nat.{ℕ, zero, suc, _+_, _*_, _≤_, _<_}
+use Prim.Native.Nat.{ℕ, zero, suc, _+_, _≤_, _<_}
 use native.Mathlib.Numerals.{add-one}
 use native.Mathlib.Omega.{arith}
 use lib.ListN.{length, getD, take, drop, length-append, drop-of-length-le}
 use lib.Seq.{drop-cons}
 use borrow.Author.Tests.{eq-eqb, ne-eqb}
-use Rattle.rules.specs.Bytes.{pick, over, zeros}
+use Rattle.rules.specs.Bytes.{over, zeros}
 use Rattle.rules.specs.Text.{line, lines, report}
 use Rattle.rules.specs.Census.{Survey, survey, census}
 use Rattle.laws.specs.Bytes.{over-none, over-append, length-zeros}
