@@ -1,7 +1,8 @@
 -- No second outcome fits the promise of a public function of this crate.
 use mathlib.Core.Bool.{Bool}
 use mathlib.Core.List.{List, []}
-use Prim.Native.Nat.{ℕ}
+use Prim.Native.Nat.{ℕ, _+_}
+use Rattle.rules.specs.Bytes.{over, one}
 use Rattle.rules.specs.Outcome.{left}
 use Rattle.rules.specs.Directory.{placeOf}
 use Rattle.rules.specs.Block.{blockAt, inUse, preset, extension}
@@ -9,6 +10,9 @@ use Rattle.laws.specs.Single.{Single, single, SingleOut, single-out}
 
 pub in-use-single : (readers : Bool) (tab : List ℕ) (slot : ℕ) → Single (inUse readers tab (placeOf slot))
 in-use-single readers tab slot = single (inUse readers tab (placeOf slot))
+
+pub refuse-single : (tab : List ℕ) (f e : ℕ) → Single e × Single (over tab (f + 1) (one e))
+refuse-single tab f e = (single e, single (over tab (f + 1) (one e)))
 
 pub preset-single : (tab : List ℕ) (n i v : ℕ) → SingleOut (left [] tab (blockAt n) (preset tab n i v))
 preset-single tab n i v = single-out (left [] tab (blockAt n) (preset tab n i v))

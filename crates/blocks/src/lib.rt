@@ -3,7 +3,7 @@ ghost use mathlib.Core.Path.{_≡_};
 ghost use mathlib.Core.List.{[]};
 ghost use Prim.Native.Nat.{_+_, _*_, _<_};
 ghost use lib.ListN.{getD};
-ghost use Rattle.rules.specs.Bytes.{part, same};
+ghost use Rattle.rules.specs.Bytes.{part, over, one, same};
 ghost use Rattle.rules.specs.Directory.{placeOf};
 ghost use Rattle.rules.specs.Outcome.{out, left};
 ghost use Rattle.rules.specs.Block.{blockAt, placeField, activityIn, counts, uses, inUse, idle, presettable, presetIn, preset, extensions, extensionIn, extension};
@@ -66,6 +66,14 @@ pub fn in_use(readers: bool, table: &[u8], slot: u32) -> bool
         left -= 1;
     }
     false
+}
+
+// A refusal: its number is the answer, and all that is stored, in byte 1 of the block that begins at f.
+pub fn refuse(table: &mut [u8], f: u16, e: u8) -> u8
+    ensures { λ r. ⌜ (r ≡ e) × (now (table .exit) ≡ over (now (table .entry)) (f + 1) (one e)) ⌝ }
+{
+    put(table, f as usize + 1, e);
+    e
 }
 
 // Is the block that begins at f closed, or used for the directory?

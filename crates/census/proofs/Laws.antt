@@ -1,8 +1,8 @@
 -- From what the census's steps say to its rules.
 use mathlib.Core.Path.{_≡_, refl, sym, ap₂, _∙_}
 use mathlib.Core.Bool.{Bool, true, false}
-use mathlib.Core.List.{List, _++_}
-use Prim.Native.Nat.{ℕ, _+_, _*_}
+use mathlib.Core.List.{List}
+use Prim.Native.Nat.{ℕ, _+_}
 use native.Mathlib.Omega.{arith}
 use lib.ListN.{length, replicate, length-replicate}
 use borrow.Author.Tests.{eq-eqb, ne-eqb}
@@ -13,6 +13,7 @@ use Rattle.rules.specs.Census.{filesOwners, owners, Survey, survey, census}
 use Rattle.laws.specs.Tests.{clash}
 use Rattle.laws.specs.Bytes.{over-append}
 use Rattle.disk.specs.Loaded.{shapeOf}
+use Rattle.disk.specs.Shapes.{right-is, wrong-is}
 use Rattle.disk.specs.declared.Shape.{Shape}
 use Rattle.disk.specs.declared.Shaped.{Shaped}
 use Rattle.disk.specs.declared.Shaped.the-variants.{Right, Wrong}
@@ -47,19 +48,9 @@ module _ (img : List ℕ) (S n : ℕ) (xs ys : List ℕ) where
 -- ---- the shape
 module _ (img xs ys : List ℕ) {s : Shaped} (e : s ≡ shapeOf img) where
   pub census-wrong : s ≡ Wrong → survey 41 xs ys ≡ census img xs ys
-  unfolding census shapeOf sized
-  census-wrong k = go (shapeRight img) (sym k ∙ e)
-    where
-      go : (b : Bool) → Wrong ≡ pick b (Right (record { last = lastTrack img; per = perTrack img })) Wrong
-          → survey 41 xs ys ≡ pick b (sized img (lastTrack img) (perTrack img) xs ys) (survey 41 xs ys)
-      go true q = clash (cc)
-      go false q = refl
+  unfolding census
+  census-wrong k = rw (wrong-is img e k) refl
 
   pub census-right : {t : Shape} {w : Survey} → s ≡ Right t → w ≡ sized img (t .last) (t .per) xs ys → w ≡ census img xs ys
-  unfolding census shapeOf sized
-  census-right {t} {w} k d = go (shapeRight img) (sym k ∙ e)
-    where
-      go : (b : Bool) → Right t ≡ pick b (Right (record { last = lastTrack img; per = perTrack img })) Wrong
-          → w ≡ pick b (sized img (lastTrack img) (perTrack img) xs ys) (survey 41 xs ys)
-      go true q = let z : t ≡ record { last = lastTrack img; per = perTrack img } = cc in rw z at d
-      go false q = clash (cc)
+  unfolding census sized
+  census-right {t} {w} k d = let r = right-is img e k in rw (r .0) (rw (r .1, r .2) at d)

@@ -1,6 +1,6 @@
 // The census: order 41, 40, 42 to 46, and the lists of sectors and owners of a diskette that is in order.
 ghost use mathlib.Core.Path.{_≡_};
-ghost use Prim.Native.Nat.{_*_, _≤_};
+ghost use Prim.Native.Nat.{_*_};
 ghost use lib.ListN.{length};
 ghost use Rattle.rules.specs.Bytes.{over};
 ghost use Rattle.rules.specs.Image.{freeCount};
@@ -52,7 +52,7 @@ fn end(image: &[u8], per: u8, n: usize, sectors: &[u16], owners: &mut [u16]) -> 
     0
 }
 
-// The chains: 44, 45, and the end.
+// The chains: 44, 45, and the end. The information record has the free chain as a slot at 528 would.
 fn chains(image: &[u8], last: u8, per: u8, sectors: &mut [u16], owners: &mut [u16]) -> u8
     requires { ⌜ (length (now sectors) ≡ last * per) × (length (now owners) ≡ last * per) ⌝ }
     ensures { λ r. ⌜ mended r (now (sectors .exit)) (now (owners .exit)) ≡ concluded (now (image .entry)) per (last * per) (chainsFault (now (image .entry)) last per) ⌝ }

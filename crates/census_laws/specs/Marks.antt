@@ -1,15 +1,15 @@
 -- Each number once, by marks: a list of n numbers holds each number below n once just where it meets no mark twice.
-use mathlib.Core.Path.{_≡_, refl, sym, ap, ap₂, _∙_, subst}
+use mathlib.Core.Path.{_≡_, refl, sym, ap, _∙_, subst}
 use mathlib.Core.Bool.{Bool, true, false}
-use mathlib.Core.List.{List, [], _∷_, _++_}
-use Prim.Native.Nat.{ℕ, zero, suc, _+_, _-_, _*_, _≤_, _<_}
+use mathlib.Core.List.{List, [], _∷_}
+use Prim.Native.Nat.{ℕ, zero, suc, _+_, _-_, _≤_, _<_}
 use native.Mathlib.Omega.{arith}
 use native.Mathlib.Decide.{ℕ-discrete, decLt}
 use native.Mathlib.Numerals.{add-one}
 use lib.ListN.{length, getD, set, drop, replicate, length-set, drop-of-length-le}
 use lib.Seq.{getD-set-same, getD-set-other, drop-cons}
-use lib.Dec.{eqb, ltb, leb}
-use borrow.Author.Tests.{eq-eqb, ne-eqb, eqb-true, eqb-false, lt-ltb, le-ltb, ltb-true, ltb-false}
+use lib.Dec.{eqb, ltb}
+use borrow.Author.Tests.{eq-eqb, ne-eqb, eqb-true, lt-ltb, le-ltb, ltb-true}
 use Rattle.rules.specs.Bytes.{pick, zeros}
 use Rattle.rules.specs.Census.{tally, eachOnce}
 use Rattle.laws.specs.Tests.{both, pick-all}
@@ -55,7 +55,7 @@ once-is (suc n) xs h k b =
     go e ih (yes q) = ap (λ (i : ℕ). tally i xs) q ∙ eqb-true (tally n xs) 1 e
     go e ih (no q) = ih (omega arith)
 
-pub once-true : (n : ℕ) (xs : List ℕ) → ((k : ℕ) → k < n → tally k xs ≡ 1) → eachOnce n xs ≡ true
+once-true : (n : ℕ) (xs : List ℕ) → ((k : ℕ) → k < n → tally k xs ≡ 1) → eachOnce n xs ≡ true
 unfolding eachOnce
 once-true zero xs h = refl
 once-true (suc n) xs h = rw (eq-eqb (tally n xs) 1 (h n (omega arith))) (once-true n xs (λ k b. h k (omega arith)))
@@ -154,7 +154,7 @@ pub record Marks (ms : List ℕ) (b : Bool) (w : Marked) : Type 0 where
   pub is : w ≡ marked b after
   pub kept : length after ≡ length ms
 
-pub marking-is : (ms xs : List ℕ) → Marks ms (newcomers ms xs) (marking ms xs)
+marking-is : (ms xs : List ℕ) → Marks ms (newcomers ms xs) (marking ms xs)
 unfolding newcomers marking
 marking-is ms [] = record { after = ms; is = refl; kept = refl }
 marking-is ms (x ∷ xs) = go (ltb x (length ms)) (eqb (getD ms x 0) 0) (marking-is (set ms x 1) xs)
@@ -217,13 +217,13 @@ new-true ms (x ∷ xs) e t =
     (λ k. omega (arith, t k, used-more ms x (e .0) free k)))
 
 -- what holds of both ways round is the same test
-pub same-test : (b c : Bool) → (b ≡ true → c ≡ true) → (c ≡ true → b ≡ true) → b ≡ c
+same-test : (b c : Bool) → (b ≡ true → c ≡ true) → (c ≡ true → b ≡ true) → b ≡ c
 same-test true c f g = sym (f refl)
 same-test false true f g = g refl
 same-test false false f g = refl
 
--- THE KEY LAW: a list of n numbers holds each below n once just where it meets no mark
-pub new-once : (n : ℕ) (xs : List ℕ) → length xs ≡ n → newcomers (zeros n) xs ≡ eachOnce n xs
+-- the law that lets the census mark and not search: a list of n numbers holds each below n once just where it meets no mark
+new-once : (n : ℕ) (xs : List ℕ) → length xs ≡ n → newcomers (zeros n) xs ≡ eachOnce n xs
 new-once n xs e =
     same-test (newcomers (zeros n) xs) (eachOnce n xs)
     (λ h. let r = new-is (zeros n) xs h in

@@ -1,12 +1,9 @@
 -- The slots of the directory, one behind the other: what a loop over them goes by.
 use mathlib.Core.Path.{_≡_, refl, sym, ap, _∙_}
-use mathlib.Core.Bool.{Bool, true, false}
 use mathlib.Core.List.{List, [], _∷_, _++_}
 use Prim.Native.Nat.{ℕ, zero, suc, _+_, _-_, _*_, _/_, _%_, _≤_, _<_}
 use native.Mathlib.Omega.{arith}
-use lib.Dec.{ltb}
 use borrow.Author.Tests.{lt-ltb, le-ltb}
-use Rattle.rules.specs.Bytes.{pick}
 use Rattle.rules.specs.Directory.{nextOf, onNext, mostOfDirectory, firstOfDirectory, sectorsFrom, directory, slotsAt, firstSlotOf, slotsOf, slots, slotBehind}
 use Rattle.census_laws.specs.Turns.{one-left, none-left}
 use Rattle.rules.specs.declared.Next.{Next}

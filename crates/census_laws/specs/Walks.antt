@@ -1,5 +1,5 @@
 -- Chains walked and listed: as the code goes, with the numbers stored on the way, and what that comes to by the definitions of rules.
-use mathlib.Core.Path.{_≡_, refl, sym, ap, ap₂, _∙_}
+use mathlib.Core.Path.{_≡_, refl, sym, ap, _∙_}
 use mathlib.Core.Bool.{Bool, true, false}
 use mathlib.Core.List.{List, [], _∷_, _++_}
 use Prim.Native.Nat.{ℕ, zero, suc, _+_, _-_, _*_, _≤_, _<_}
@@ -35,7 +35,7 @@ abbrev pub onLaid : Laid → (List ℕ → ℕ → Laid) → Laid
 onLaid (laid (Upto n) out) f = f out n
 onLaid (laid Wrong out) f = laid Wrong out
 
--- n sectors by links, as `runsOut` has them, each one's number stored in the next place of an output
+-- n sectors by links, as `runsOut` goes, each one's number stored in the next place of an output
 unfoldable pub walk : List ℕ → ℕ → ℕ → ℕ → ℕ → ℕ → ℕ → List ℕ → ℕ → Laid
 walk img M S end zero before a out at = laid (pick (eqb a 0) (pick (eqb before end) (Upto at) Wrong) Wrong) out
 walk img M S end (suc n) before a out at =
@@ -46,7 +46,7 @@ walk img M S end (suc n) before a out at =
 unfoldable pub chain : List ℕ → ℕ → ℕ → ℕ → ℕ → ℕ → List ℕ → ℕ → Laid
 chain img M S start end count out at = pick (leb count (M * S)) (walk img M S end count 0 start out at) (laid Wrong out)
 
--- what a slot says of a chain; the information record's sixteenth byte begins what says it of the free chain
+-- start, end and count as a slot has them; the information record has those of the free chain as a slot at its byte 16 would
 unfoldable pub chainAt : List ℕ → ℕ → ℕ → ℕ → List ℕ → ℕ → Laid
 chainAt img M S slot out at = chain img M S (startAt img slot) (endAt img slot) (sizeAt img slot) out at
 

@@ -1,19 +1,18 @@
 -- The census as the code makes it: what it leaves before a refusal fills the outputs, and that this comes to the census of rules.
 use mathlib.Core.Path.{_≡_, refl, sym, ap, ap₂, _∙_}
 use mathlib.Core.Bool.{Bool, true, false}
-use mathlib.Core.List.{List, [], _∷_, _++_}
-use Prim.Native.Nat.{ℕ, zero, suc, _+_, _*_, _≤_, _<_}
+use mathlib.Core.List.{List}
+use Prim.Native.Nat.{ℕ, _+_, _*_}
 use native.Mathlib.Omega.{arith}
 use native.Mathlib.Decide.{ℕ-discrete}
 use lib.ListN.{length, replicate, length-append}
 use lib.Dec.{eqb}
-use borrow.Author.Tests.{eq-eqb, ne-eqb, eqb-true}
-use Rattle.rules.specs.Bytes.{pick, wordAt, over, zeros}
-use Rattle.rules.specs.Image.{shapeRight, lastTrack, perTrack, firstFree, lastFree, freeCount}
+use borrow.Author.Tests.{eq-eqb, ne-eqb}
+use Rattle.rules.specs.Bytes.{pick, over, zeros}
+use Rattle.rules.specs.Image.{firstFree, lastFree, freeCount}
 use Rattle.rules.specs.Directory.{directoryRight, slots}
 use Rattle.rules.specs.Census.{holed, twins, freeRight, filesRight, numbersFrom, filesNumbers, listed, owners, eachOnce, Survey, survey, fault, concluded, census}
-use Rattle.laws.specs.Tests.{clash, never}
-use Rattle.laws.specs.Bytes.{over-append, length-over, length-zeros}
+use Rattle.laws.specs.Bytes.{over-append, length-zeros}
 use Rattle.laws.specs.Surveys.{length-numbers, length-owners, numbers-listed}
 use Rattle.census_laws.specs.Marks.{Marked, marked, marking, Marks, marking-once, once-short}
 use Rattle.census_laws.specs.Stored.{over-exact}
@@ -48,7 +47,7 @@ ending img S n xs ys =
     (onMarked (marking (zeros (length ys)) xs) (λ b ms. pick b (ended 0 (over ms 0 (owners img S))) (ended 46 ms)))
     (ended 46 ys)
 
--- what tells of the free chain begins, as a slot would, here
+-- the slot at byte 16 of the information record
 abbrev pub freeSlot : ℕ
 freeSlot = 528
 

@@ -74,7 +74,8 @@ last-append (j ∷ l) r x h = last-append l r j h
 
 -- ---- links
 
-pub link-same : (m m′ : List ℕ) (k : ℕ) → ((i : ℕ) → i < 2 → getD m′ (256 * k + i) 0 ≡ getD m (256 * k + i) 0) → wordAt m′ (256 * k) ≡ wordAt m (256 * k)
+pub link-same : (m m′ : List ℕ) (k : ℕ) → ((i : ℕ) → i < 2 → getD m′ (256 * k + i) 0 ≡ getD m (256 * k + i) 0)
+    → wordAt m′ (256 * k) ≡ wordAt m (256 * k)
 link-same m m′ k s =
     word-same m m′ (256 * k) (256 * k) (subst (λ (p : ℕ). getD m′ p 0 ≡ getD m p 0) (omega arith) (s 0 (omega arith))) (s 1 (omega arith))
 
@@ -84,7 +85,8 @@ seg-at S m (k ∷ l) zero h g = g .0 ∙ ap (adr S) (first-getD l)
 seg-at S m (k ∷ l) (suc j) h g = seg-at S m l j (omega arith) (g .1)
 
 -- links that are not stored to
-pub seg-same : (S : ℕ) (m m′ l : List ℕ) (x : ℕ) → ((j i : ℕ) → 1 ≤ tally j l → i < 2 → getD m′ (256 * j + i) 0 ≡ getD m (256 * j + i) 0) → Seg S m l x → Seg S m′ l x
+pub seg-same : (S : ℕ) (m m′ l : List ℕ) (x : ℕ) → ((j i : ℕ) → 1 ≤ tally j l → i < 2 → getD m′ (256 * j + i) 0 ≡ getD m (256 * j + i) 0)
+    → Seg S m l x → Seg S m′ l x
 seg-same S m m′ [] x s g = tt
 seg-same S m m′ (k ∷ l) x s g =
     (link-same m m′ k (λ i h. s k i (tally-head k l) h) ∙ g .0, seg-same S m m′ l x (λ j i h. s j i (omega arith)) (g .1))
@@ -120,7 +122,8 @@ pub contents-append : (m a b : List ℕ) → contents m (a ++ b) ≡ contents m 
 contents-append m [] b = refl
 contents-append m (k ∷ a) b = ap (λ (y : List (List ℕ)). part m (256 * k + 4) 252 ∷ y) (contents-append m a b)
 
-data-same : (m m′ : List ℕ) (k : ℕ) → ((i : ℕ) → 4 ≤ i → i < 256 → getD m′ (256 * k + i) 0 ≡ getD m (256 * k + i) 0) → part m′ (256 * k + 4) 252 ≡ part m (256 * k + 4) 252
+data-same : (m m′ : List ℕ) (k : ℕ) → ((i : ℕ) → 4 ≤ i → i < 256 → getD m′ (256 * k + i) 0 ≡ getD m (256 * k + i) 0)
+    → part m′ (256 * k + 4) 252 ≡ part m (256 * k + 4) 252
 data-same m m′ k s =
     part-same m m′ (256 * k + 4) (256 * k + 4) 252
     (λ i h. subst (λ (p : ℕ). getD m′ p 0 ≡ getD m p 0) (omega arith) (s (4 + i) (omega arith) (omega arith)))
@@ -149,7 +152,8 @@ contents-last m m′ (k ∷ j ∷ l) d once s p =
 
 -- ---- a chain's record and sectors that are not stored to
 
-pub record-same : (m m′ : List ℕ) (p q x : ℕ) → p + q ≡ x → q + 1 < 6 → ((i : ℕ) → i < 6 → getD m′ (p + i) 0 ≡ getD m (p + i) 0) → wordAt m′ x ≡ wordAt m x
+pub record-same : (m m′ : List ℕ) (p q x : ℕ) → p + q ≡ x → q + 1 < 6 → ((i : ℕ) → i < 6 → getD m′ (p + i) 0 ≡ getD m (p + i) 0)
+    → wordAt m′ x ≡ wordAt m x
 record-same m m′ p q x e b k =
     word-same m m′ x x (subst (λ (y : ℕ). getD m′ y 0 ≡ getD m y 0) e (k q (omega arith))) (subst (λ (y : ℕ). getD m′ y 0 ≡ getD m y 0) (omega arith) (k (q + 1) b))
 

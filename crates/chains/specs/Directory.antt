@@ -20,7 +20,7 @@ use Rattle.chains.specs.Tally.{tally, tally-head, eq1, eq1-same, eq1-ne}
 use Rattle.laws.specs.Tests.{within-true}
 use Rattle.laws.specs.Addresses.{Shape}
 use Rattle.chains.specs.Addresses.{absurd-bool, adr, adr-zero, adr-pos, index-adr, directory-adr, directory-index}
-use Rattle.chains.specs.Chain.{first, Seg, seg-at, tally-getD}
+use Rattle.chains.specs.Chain.{first, Seg, seg-at, tally-getD, in-one}
 
 -- ---- one place, one chain: what is linked from a sector on to the end is told by the sector
 
@@ -39,7 +39,8 @@ first-high : (M S : ℕ) → Shape M S → (l : List ℕ) → InImage M S l → 
 first-high M S z [] g = omega (arith, z .sectors)
 first-high M S z (k ∷ l) g = g k (tally-head k l) .1
 
-seg-length : (M S : ℕ) → Shape M S → (m l l′ : List ℕ) → InImage M S l → InImage M S l′ → Seg S m l 0 → Seg S m l′ 0 → first l 0 ≡ first l′ 0 → length l ≡ length l′
+seg-length : (M S : ℕ) → Shape M S → (m l l′ : List ℕ) → InImage M S l → InImage M S l′ → Seg S m l 0 → Seg S m l′ 0 → first l 0 ≡ first l′ 0
+    → length l ≡ length l′
 seg-length M S z m [] [] g g′ s s′ e = refl
 seg-length M S z m [] (k ∷ l′) g g′ s s′ e = absurd (omega (arith, g′ k (tally-head k l′), e))
 seg-length M S z m (k ∷ l) [] g g′ s s′ e = absurd (omega (arith, g k (tally-head k l), e))
@@ -153,7 +154,7 @@ module _ (M S : ℕ) (z : Shape M S) (img : List ℕ) where
         go (eqb (linkOf img k) 0) refl (isDirectory S (linkOf img k)) refl h (λ j c d e. walked n j c d e)
       where
         one : (x : ℕ) → 1 ≤ tally x (k ∷ []) → (4 ≤ x) × (x < S)
-        one x t = let e : x ≡ k = Rattle.chains.specs.Chain.in-one x k t in omega arith
+        one x t = let e : x ≡ k = in-one x k t in omega arith
 
         more : (l : List ℕ) → ((x : ℕ) → 1 ≤ tally x l → (4 ≤ x) × (x < S)) → (x : ℕ) → 1 ≤ tally x (k ∷ l) → Dec (x ≡ k) → (4 ≤ x) × (x < S)
         more l g x t (yes e) = omega arith
@@ -167,7 +168,7 @@ module _ (M S : ℕ) (z : Shape M S) (img : List ℕ) where
             record { seg = (eqb-true (linkOf img k) 0 e ∙ sym (adr-zero S), tt); head = refl; some = omega arith; few = omega arith; within = one }
         go false e false f h ih = absurd-bool h refl
         go false e true f h ih =
-            let d = directory-index S (z .sectors) (linkOf img k) (word-small (256 * k)) f in
+            let d = directory-index S (linkOf img k) (word-small (256 * k)) f in
             let w = ih (index S (linkOf img k)) (d .1) (d .2) h in
             record {
               seg = (sym (d .0) ∙ sym (adr-directory (index S (linkOf img k)) (d .1) (d .2)) ∙ ap (adr S) (sym (w .head)), w .seg);
@@ -302,7 +303,8 @@ placed-spot M S z img ds d g s o w tab p e =
     let hi = w .high in
     let pl = w .place in
     let ro = w .row in
-    let b : (i : ℕ) → i < 3 → getD tab (p + i) 0 ≡ getD (0 ∷ (o / 256 + 1) % 256 ∷ o % 256 ∷ []) i 0 = λ i h. sym (part-at tab p 3 i h) ∙ ap (λ (l : List ℕ). getD l i 0) e in
+    let b : (i : ℕ) → i < 3 → getD tab (p + i) 0 ≡ getD (0 ∷ (o / 256 + 1) % 256 ∷ o % 256 ∷ []) i 0 =
+    λ i h. sym (part-at tab p 3 i h) ∙ ap (λ (l : List ℕ). getD l i 0) e in
     let b0 : getD tab p 0 ≡ 0 = ap (λ (x : ℕ). getD tab x 0) (omega arith) ∙ b 0 (omega arith) in
     let v = spot-sector S ds s o w in
     let b1 : getD tab (p + 1) 0 ≡ w .k + 1 = b 1 (omega arith) ∙ ap (λ (x : ℕ). (x + 1) % 256) (v .0) ∙ omega (arith, z .most-sectors) in

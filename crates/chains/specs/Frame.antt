@@ -48,10 +48,12 @@ module _ (S : ℕ) (s5 : 5 ≤ S) (ds : List ℕ) (d : Listing S ds) (s : ℕ) (
   off-shape ks t p a b (in-slot k i vs l e) = λ u v. omega (arith, w .place, w .low)
   off-shape ks t p a b (of-nothing k u) = λ x y. omega arith
 
-  off-link : (ks : List ℕ) (t : Store) (j i : ℕ) → 4 ≤ j → j < S → i < 2 → Lies S ks o t → placeAt t ≤ 256 * j + i → 256 * j + i < placeAt t + length (bytesOf t) → ⊥
+  off-link : (ks : List ℕ) (t : Store) (j i : ℕ) → 4 ≤ j → j < S → i < 2 → Lies S ks o t → placeAt t ≤ 256 * j + i
+      → 256 * j + i < placeAt t + length (bytesOf t) → ⊥
   off-link ks t j i a b c (in-record vs l) = λ x y. omega arith
   off-link ks t j i a b c (in-sector k h vs l n e) = λ x y. omega arith
-  off-link ks t j i a b c (in-slot k h vs l e) = λ u v. below (w .k) j (16 + 24 * w .i) i (omega arith) (omega (arith, w .row)) c (omega (arith, w .place)) (omega (arith, w .place))
+  off-link ks t j i a b c (in-slot k h vs l e) =
+      λ u v. below (w .k) j (16 + 24 * w .i) i (omega arith) (omega (arith, w .row)) c (omega (arith, w .place)) (omega (arith, w .place))
   off-link ks t j i a b c (of-nothing k u) = λ x y. omega arith
 
   off-slot : (ks : List ℕ) (t : Store) (s′ i : ℕ) → s′ < length (slotsOf ds) → s′ ≢ s → i < 24 → Lies S ks o t
@@ -61,13 +63,15 @@ module _ (S : ℕ) (s5 : 5 ≤ S) (ds : List ℕ) (d : Listing S ds) (s : ℕ) (
   off-slot ks t s′ i h ne b (in-slot k j vs l e) = λ u v. slots-apart S ds d s s′ hs h (λ q. ne (sym q)) i b (omega arith) (omega arith)
   off-slot ks t s′ i h ne b (of-nothing k u) = λ x y. omega arith
 
-  off-sector : (ks : List ℕ) (t : Store) (j i : ℕ) → S ≤ j → tally j ks ≡ 0 → i < 256 → Lies S ks o t → placeAt t ≤ 256 * j + i → 256 * j + i < placeAt t + length (bytesOf t) → ⊥
+  off-sector : (ks : List ℕ) (t : Store) (j i : ℕ) → S ≤ j → tally j ks ≡ 0 → i < 256 → Lies S ks o t → placeAt t ≤ 256 * j + i
+      → 256 * j + i < placeAt t + length (bytesOf t) → ⊥
   off-sector ks t j i a b c (in-record vs l) = λ x y. omega arith
   off-sector ks t j i a b c (in-sector k h vs l n e) = λ u v. let q : k ≡ j = omega arith in let y : tally k ks ≡ tally j ks = ap (λ (x : ℕ). tally x ks) q in omega (arith, y)
   off-sector ks t j i a b c (in-slot k h vs l e) = λ u v. omega (arith, w .place, w .row, w .high)
   off-sector ks t j i a b c (of-nothing k u) = λ x y. omega arith
 
-  all-off : (ks : List ℕ) (p : ℕ) → ((t : Store) → Lies S ks o t → placeAt t ≤ p → p < placeAt t + length (bytesOf t) → ⊥) → (ws : List Store) → AllLie S ks o ws → Off p ws
+  all-off : (ks : List ℕ) (p : ℕ) → ((t : Store) → Lies S ks o t → placeAt t ≤ p → p < placeAt t + length (bytesOf t) → ⊥) → (ws : List Store)
+      → AllLie S ks o ws → Off p ws
   all-off ks p g [] a = tt
   all-off ks p g (t ∷ ws) a = (g t (a .0), all-off ks p g ws (a .1))
 

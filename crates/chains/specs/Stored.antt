@@ -33,7 +33,8 @@ stored-off [] m p o = refl
 stored-off (store k i vs ∷ ss) m p o = stored-off ss (over m (256 * k + i) vs) p (o .1) ∙ over-other m (256 * k + i) vs p (o .0)
 
 -- what the store number q put, i further on, at p, where no later store is
-pub stored-at : (ss : List Store) (m : List ℕ) (q i p : ℕ) → q < length ss → i < length (bytesOf (getD ss q noStore)) → placeAt (getD ss q noStore) + i ≡ p
+pub stored-at : (ss : List Store) (m : List ℕ) (q i p : ℕ) → q < length ss → i < length (bytesOf (getD ss q noStore))
+    → placeAt (getD ss q noStore) + i ≡ p
     → p < length m → Off p (drop (suc q) ss) → getD (stored m ss) p 0 ≡ getD (bytesOf (getD ss q noStore)) i 0
 stored-at [] m q i p h k e l o = absurd (omega arith)
 stored-at (store s t vs ∷ ss) m zero i p h k e l o =
@@ -68,7 +69,8 @@ puts-clear [] tab f i c = refl
 puts-clear (put j vs ∷ ps) tab f i c =
     puts-clear ps (over tab (f + j) vs) f i (c .1) ∙ over-other tab (f + j) vs (f + i) (λ a b. c .0 (omega arith) (omega arith))
 
-pub puts-at : (ps : List Put) (tab : List ℕ) (f q j i : ℕ) → q < length ps → j < length (valuesOf (getD ps q noPut)) → fieldOf (getD ps q noPut) + j ≡ i
+pub puts-at : (ps : List Put) (tab : List ℕ) (f q j i : ℕ) → q < length ps → j < length (valuesOf (getD ps q noPut))
+    → fieldOf (getD ps q noPut) + j ≡ i
     → f + i < length tab → Clear i (drop (suc q) ps) → getD (puts tab f ps) (f + i) 0 ≡ getD (valuesOf (getD ps q noPut)) j 0
 puts-at [] tab f q j i h k e l c = absurd (omega arith)
 puts-at (put t vs ∷ ps) tab f zero j i h k e l c =
@@ -78,7 +80,8 @@ puts-at (put t vs ∷ ps) tab f (suc q) j i h k e l c =
     puts-at ps (over tab (f + t) vs) f q j i (omega arith) k e (omega (arith, length-over tab (f + t) vs)) c
 
 -- another block is as it was
-pub puts-other : (ps : List Put) (tab : List ℕ) (n m i : ℕ) → Inside ps → m ≢ n → i < 320 → getD (puts tab (320 * n) ps) (320 * m + i) 0 ≡ getD tab (320 * m + i) 0
+pub puts-other : (ps : List Put) (tab : List ℕ) (n m i : ℕ) → Inside ps → m ≢ n → i < 320
+    → getD (puts tab (320 * n) ps) (320 * m + i) 0 ≡ getD tab (320 * m + i) 0
 puts-other [] tab n m i w ne h = refl
 puts-other (put j vs ∷ ps) tab n m i w ne h =
     puts-other ps (over tab (320 * n + j) vs) n m i (w .1) ne h

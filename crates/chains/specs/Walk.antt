@@ -10,7 +10,7 @@ use lib.Dec.{eqb, leb}
 use borrow.Author.Tests.{eq-eqb, ne-eqb, eqb-true, le-leb}
 use Rattle.rules.specs.Bytes.{pick, wordAt}
 use Rattle.rules.specs.Image.{index, isData, linkOf}
-use Rattle.rules.specs.Census.{runsOut, chainRight, numbersFrom, eachOnce}
+use Rattle.rules.specs.Census.{runsOut, chainRight, numbersFrom, eachOnce, tally as count}
 use Rattle.laws.specs.Small.{Small, small-word}
 use Rattle.chains.specs.Tally.{tally, tally-head, bit, eq1, eq1-same, eq1-ne}
 use Rattle.chains.specs.Once.{Once}
@@ -103,7 +103,8 @@ module _ (M S : ℕ) (z : Shape M S) (m : List ℕ) where
       (rw (i, s .0, r .0) refl, rw (data-adr M S z k (omega (arith, q .0, z .sectors)) (q .1) (q .0), i, s .0) (r .1))
 
   -- a chain that the census finds right is a chain
-  pub chain-sound : Small m → (p : ℕ) → chainRight m M S (wordAt m p) (wordAt m (p + 2)) (wordAt m (p + 4)) ≡ true → Chain S m p (chainAt S m p) × AllData M S (chainAt S m p)
+  pub chain-sound : Small m → (p : ℕ) → chainRight m M S (wordAt m p) (wordAt m (p + 2)) (wordAt m (p + 4)) ≡ true
+      → Chain S m p (chainAt S m p) × AllData M S (chainAt S m p)
   unfolding chainRight
   chain-sound small p h =
       let q = both (leb (wordAt m (p + 4)) (M * S)) _ h in
@@ -117,18 +118,19 @@ module _ (M S : ℕ) (z : Shape M S) (m : List ℕ) where
   chain-complete p l g b c =
       let w = runs l 0 g (c .seg) in
       let e : chainAt S m p ≡ l = ap₂ (walk S m) (c .size) (c .start) ∙ w .0 in
-      let r : runsOut m M S (adr S (lastOf l 0)) (length l) 0 (adr S (first l 0)) ≡ true = subst (λ (x : ℕ). runsOut m M S (adr S (lastOf l 0)) (length l) x (adr S (first l 0)) ≡ true) (adr-zero S) (w .1) in
+      let r : runsOut m M S (adr S (lastOf l 0)) (length l) 0 (adr S (first l 0)) ≡ true =
+      subst (λ (x : ℕ). runsOut m M S (adr S (lastOf l 0)) (length l) x (adr S (first l 0)) ≡ true) (adr-zero S) (w .1) in
       (e, rw (c .size, c .start, c .end, le-leb (length l) (M * S) b) r)
 
 -- ---- each once
 
 -- the census's count is ours
-pub tally-is : (x : ℕ) (l : List ℕ) → Rattle.rules.specs.Census.tally x l ≡ tally x l
-unfolding Rattle.rules.specs.Census.tally eq1
+pub tally-is : (x : ℕ) (l : List ℕ) → count x l ≡ tally x l
+unfolding count eq1
 tally-is x [] = refl
 tally-is x (y ∷ l) = go (ℕ-discrete y x) (tally-is x l)
   where
-    go : Dec (y ≡ x) → Rattle.rules.specs.Census.tally x l ≡ tally x l → pick (eqb y x) 1 0 + Rattle.rules.specs.Census.tally x l ≡ bit (eqb x y) + tally x l
+    go : Dec (y ≡ x) → count x l ≡ tally x l → pick (eqb y x) 1 0 + count x l ≡ bit (eqb x y) + tally x l
     go (yes e) ih = rw (eq-eqb y x e, eq-eqb x y (sym e), ih) refl
     go (no e) ih = rw (ne-eqb y x e, ne-eqb x y (λ q. e (sym q)), ih) refl
 
@@ -136,10 +138,10 @@ pub each-sound : (n : ℕ) (l : List ℕ) → eachOnce n l ≡ true → (x : ℕ
 unfolding eachOnce
 each-sound zero l h x b = absurd (omega arith)
 each-sound (suc n) l h x b =
-    let p = both (eqb (Rattle.rules.specs.Census.tally n l) 1) (eachOnce n l) h in
-    go (ℕ-discrete x n) (eqb-true (Rattle.rules.specs.Census.tally n l) 1 (p .0)) (each-sound n l (p .1) x)
+    let p = both (eqb (count n l) 1) (eachOnce n l) h in
+    go (ℕ-discrete x n) (eqb-true (count n l) 1 (p .0)) (each-sound n l (p .1) x)
   where
-    go : Dec (x ≡ n) → Rattle.rules.specs.Census.tally n l ≡ 1 → (x < n → tally x l ≡ 1) → tally x l ≡ 1
+    go : Dec (x ≡ n) → count n l ≡ 1 → (x < n → tally x l ≡ 1) → tally x l ≡ 1
     go (yes e) q ih = ap (λ (y : ℕ). tally y l) e ∙ sym (tally-is n l) ∙ q
     go (no e) q ih = ih (omega arith)
 
@@ -147,7 +149,7 @@ pub each-complete : (n : ℕ) (l : List ℕ) → ((x : ℕ) → x < n → tally 
 unfolding eachOnce
 each-complete zero l h = refl
 each-complete (suc n) l h =
-    rw (eq-eqb (Rattle.rules.specs.Census.tally n l) 1 (tally-is n l ∙ h n (omega arith))) (each-complete n l (λ x b. h x (omega arith)))
+    rw (eq-eqb (count n l) 1 (tally-is n l ∙ h n (omega arith))) (each-complete n l (λ x b. h x (omega arith)))
 
 -- a number stands in the list of numbers as often as its sector in the list of sectors
 pub tally-numbers : (S : ℕ) (l : List ℕ) → ((x : ℕ) → 1 ≤ tally x l → S ≤ x) → (x : ℕ) → tally x (numbers S l) ≡ tally (x + S) l

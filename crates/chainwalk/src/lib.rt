@@ -2,7 +2,7 @@
 ghost use mathlib.Core.Path.{_≡_};
 ghost use Prim.Native.Nat.{_*_};
 ghost use Rattle.rules.specs.Image.{dataNumber};
-ghost use Rattle.census_laws.specs.Walks.{laid, walk, chainAt, file};
+ghost use Rattle.census_laws.specs.Walks.{laid, walk, chainAt};
 use cells::get2;
 use census_laws::Listing;
 use disk::index_of;

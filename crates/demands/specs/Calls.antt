@@ -14,7 +14,7 @@ use Rattle.rules.specs.Stores.{put, stored, puts}
 use Rattle.rules.specs.Directory.{slotsOf}
 use Rattle.rules.specs.Outcome.{Outcome, Effect, onImage, onBlock}
 use Rattle.rules.specs.Block.{idle, activityIn, presettable, presetIn, preset, extensions, extensionIn, extension}
-use Rattle.rules.specs.Transfer.{transfer}
+use Rattle.rules.specs.Transfer.{transfer, close}
 use Rattle.rules.specs.Call.{served, fits, misfit, checked, perform, asked, call}
 use Rattle.laws.specs.Tests.{pick-cases}
 use Rattle.laws.specs.Tests.{within-is}
@@ -23,15 +23,18 @@ use Rattle.chains.specs.Addresses.{shape-right, absurd-bool}
 use Rattle.chains.specs.Directory.{Listing}
 use Rattle.chains.specs.Stored.{puts-clear}
 use Rattle.demands.specs.Ledger.{noFile, Block, closed, listing, reading, writing, Ledger, Request, Fate, activity, block, transferred, shutBlock, rewound, shownNext, performed, fate}
+use Rattle.demands.specs.Diskette.{request}
 use Rattle.demands.specs.Relation.{tb, opens, Reading, Writing, Keeps, Agrees, tp-same}
 use Rattle.demands.specs.Quiet.{turned, activity-is, quiet, idle-quiet, idle-opens}
-use Rattle.demands.specs.Meets.{request, Meets, meets-pick, meets-unless, Met, settles}
+use Rattle.demands.specs.Meets.{Meets, meets-pick, meets-unless, Met, settles}
 use Rattle.demands.specs.Reads.{read-meets, rewind-meets}
 use Rattle.demands.specs.Takes.{write-meets}
 use Rattle.demands.specs.Fills.{close-meets}
 use Rattle.demands.specs.Opens.{open-read-meets, open-write-meets}
 use Rattle.demands.specs.Removes.{delete-meets, rename-meets}
 use Rattle.demands.specs.Lists.{open-directory-meets, next-slot-meets, read-sector-meets}
+use Rattle.rules.specs.Files.{nextSlot}
+use Rattle.rules.specs.Files.{rewind}
 
 -- a function of other codes takes an idle block
 fits-idle : (code : ℕ) (o : Block) → code ≢ 0 → code ≢ 4 → code ≢ 5 → code ≢ 7 → fits code (activity o) ≡ true → opens o ≡ 0
@@ -48,32 +51,37 @@ module _ (M S : ℕ) (z : Shape M S) (ds : List ℕ) (d : Listing S ds) (img tab
   abbrev q : Request
   q = request tab n b
 
-  transfer-meets : (o : Block) → getD (a .blocks) n closed ≡ o → fits 0 (activity o) ≡ true → Meets M S ds img tab n (transfer img tab M S (320 * n) b) (transferred M S a n q o)
+  transfer-meets : (o : Block) → getD (a .blocks) n closed ≡ o → fits 0 (activity o) ≡ true
+      → Meets M S ds img tab n (transfer img tab M S (320 * n) b) (transferred M S a n q o)
   unfolding transfer fits within
   transfer-meets closed e h = absurd-bool h refl
   transfer-meets (listing p) e h = absurd-bool h refl
   transfer-meets (reading s j i) e h =
-      let k : Reading S (slotsOf ds) tab n (getD (a .slots) s noFile) s j i = subst (λ (x : Block). Keeps S (slotsOf ds) tab n (a .slots) x) e (r .keeps n hn) in
+      let k : Reading S (slotsOf ds) tab n (getD (a .slots) s noFile) s j i =
+      subst (λ (x : Block). Keeps S (slotsOf ds) tab n (a .slots) x) e (r .keeps n hn) in
       rw (k .act) (read-meets M S z ds d img tab a r n hn s j i e q)
   transfer-meets (writing s ub) e h =
-      let k : Writing S (slotsOf ds) tab n (getD (a .slots) s noFile) s ub = subst (λ (x : Block). Keeps S (slotsOf ds) tab n (a .slots) x) e (r .keeps n hn) in
+      let k : Writing S (slotsOf ds) tab n (getD (a .slots) s noFile) s ub =
+      subst (λ (x : Block). Keeps S (slotsOf ds) tab n (a .slots) x) e (r .keeps n hn) in
       rw (k .act) (write-meets M S z ds d img tab a r n hn q s ub e)
 
-  shut-meets : (o : Block) → getD (a .blocks) n closed ≡ o → fits 4 (activity o) ≡ true → Meets M S ds img tab n (Rattle.rules.specs.Transfer.close img tab M S (320 * n)) (shutBlock M S a n q o)
+  shut-meets : (o : Block) → getD (a .blocks) n closed ≡ o → fits 4 (activity o) ≡ true
+      → Meets M S ds img tab n (close img tab M S (320 * n)) (shutBlock M S a n q o)
   unfolding fits within
   shut-meets closed e h = absurd-bool h refl
   shut-meets (listing p) e h = close-meets M S z ds d img tab a r n hn q (listing p) e (λ x. let y : _≡_ {A = ℕ} 0 1 = cc in omega arith)
   shut-meets (reading s j i) e h = close-meets M S z ds d img tab a r n hn q (reading s j i) e (λ x. let y : _≡_ {A = ℕ} 0 1 = cc in omega arith)
   shut-meets (writing s ub) e h = close-meets M S z ds d img tab a r n hn q (writing s ub) e (λ x. let y : _≡_ {A = ℕ} 0 1 = cc in omega arith)
 
-  back-meets : (o : Block) → getD (a .blocks) n closed ≡ o → fits 5 (activity o) ≡ true → Meets M S ds img tab n Rattle.rules.specs.Files.rewind (rewound M S a n q o)
+  back-meets : (o : Block) → getD (a .blocks) n closed ≡ o → fits 5 (activity o) ≡ true → Meets M S ds img tab n rewind (rewound M S a n q o)
   unfolding fits
   back-meets closed e h = absurd-bool h refl
   back-meets (listing p) e h = absurd-bool h refl
   back-meets (reading s j i) e h = rewind-meets M S z ds d img tab a r n hn s j i e q
   back-meets (writing s ub) e h = absurd-bool h refl
 
-  list-meets : (o : Block) → getD (a .blocks) n closed ≡ o → fits 7 (activity o) ≡ true → Meets M S ds img tab n (Rattle.rules.specs.Files.nextSlot img tab S (320 * n)) (shownNext M S a n q o)
+  list-meets : (o : Block) → getD (a .blocks) n closed ≡ o → fits 7 (activity o) ≡ true
+      → Meets M S ds img tab n (nextSlot img tab S (320 * n)) (shownNext M S a n q o)
   unfolding fits
   list-meets closed e h = absurd-bool h refl
   list-meets (listing p) e h = next-slot-meets M S z ds d img tab a r n hn q p e
@@ -83,11 +91,13 @@ module _ (M S : ℕ) (z : Shape M S) (ds : List ℕ) (d : Listing S ds) (img tab
   abbrev code : ℕ
   code = getD tab (320 * n + 0) 0
 
-  by-code : (k : ℕ) (x y : Outcome) (x′ y′ : Fate) → (eqb code k ≡ true → Meets M S ds img tab n x x′) → (eqb code k ≡ false → Meets M S ds img tab n y y′)
+  by-code : (k : ℕ) (x y : Outcome) (x′ y′ : Fate) → (eqb code k ≡ true → Meets M S ds img tab n x x′)
+      → (eqb code k ≡ false → Meets M S ds img tab n y y′)
       → Meets M S ds img tab n (pick (eqb code k) x y) (pick (eqb code k) x′ y′)
   by-code k x y x′ y′ = meets-pick M S ds img tab n (eqb code k) (eqb code k) x y x′ y′ refl
 
-  perform-meets : tb tab n 3 ≡ 0 → fits code (activity (block a n)) ≡ true → Meets M S ds img tab n (perform img tab M S (320 * n) b) (performed M S a n q)
+  perform-meets : tb tab n 3 ≡ 0 → fits code (activity (block a n)) ≡ true
+      → Meets M S ds img tab n (perform img tab M S (320 * n) b) (performed M S a n q)
   unfolding perform performed
   perform-meets dr h =
       let ok = fits-at code in
@@ -105,7 +115,8 @@ module _ (M S : ℕ) (z : Shape M S) (ds : List ℕ) (d : Listing S ds) (img tab
 
   misfit-pos : (code act : ℕ) → misfit code act ≢ 0
   unfolding misfit
-  misfit-pos code act = pick-cases (λ (x : ℕ). x ≢ 0) (eqb code 4) _ _ (λ h. pick-cases (λ (x : ℕ). x ≢ 0) (eqb act 0) 13 18 (λ h. omega arith) (λ h. omega arith)) (λ h. omega arith)
+  misfit-pos code act =
+      pick-cases (λ (x : ℕ). x ≢ 0) (eqb code 4) _ _ (λ h. pick-cases (λ (x : ℕ). x ≢ 0) (eqb act 0) 13 18 (λ h. omega arith) (λ h. omega arith)) (λ h. omega arith)
 
   asked-meets : Meets M S ds img tab n (asked img tab (320 * n) b) (fate M S a n q)
   unfolding asked checked fate
@@ -139,14 +150,15 @@ pub record Offset (i : ℕ) : Type 0 where
   pub high : i < 64
   pub not-place : (47 ≤ i → i < 50 → ⊥)
 
-pub presettable-is : (i : ℕ) → presettable i ≡ true → Offset i
+pub offset-is : (i : ℕ) → presettable i ≡ true → Offset i
 unfolding presettable
-presettable-is i h = go (within 3 14 i) refl (within 25 27 i) refl (within 30 31 i) refl h
+offset-is i h = go (within 3 14 i) refl (within 25 27 i) refl (within 30 31 i) refl h
   where
     span : (lo hi : ℕ) → within lo hi i ≡ true → (lo ≤ i) × (i ≤ hi)
     span lo hi e = within-is lo hi i e
 
-    go : (u : Bool) → within 3 14 i ≡ u → (v : Bool) → within 25 27 i ≡ v → (w : Bool) → within 30 31 i ≡ w → pick u true (pick v true (pick w true (within 53 63 i))) ≡ true → Offset i
+    go : (u : Bool) → within 3 14 i ≡ u → (v : Bool) → within 25 27 i ≡ v → (w : Bool) → within 30 31 i ≡ w
+        → pick u true (pick v true (pick w true (within 53 63 i))) ≡ true → Offset i
     go true e v f w g h = let s = span 3 14 e in record { low = omega arith; high = omega arith; not-place = λ x y. omega arith }
     go false e true f w g h = let s = span 25 27 f in record { low = omega arith; high = omega arith; not-place = λ x y. omega arith }
     go false e false f true g h = let s = span 30 31 g in record { low = omega arith; high = omega arith; not-place = λ x y. omega arith }
@@ -170,7 +182,7 @@ module _ (M S : ℕ) (z : Shape M S) (ds : List ℕ) (d : Listing S ds) (img tab
       (λ h0. pick-cases Still (presettable i) _ _
       (λ hp. pick-cases Still (idle (activityIn tab (320 * n))) _ _
       (λ hi.
-      let p = presettable-is i hp in
+      let p = offset-is i hp in
       let k = idle-act (tb tab n 2) hi in
       idle-quiet M S z ds d img tab a r n hn (puts tab (320 * n) (put i (v ∷ []) ∷ [])) (turned tab n (put i (v ∷ []) ∷ []) (omega (arith, p .high)))
       (idle-opens M S z ds d img tab a r n hn (k .0) (k .1)) (puts-clear (put i (v ∷ []) ∷ []) tab (320 * n) 2 (omega (arith, p .low)))

@@ -36,13 +36,16 @@ pub data Change (a : Ledger) (n : ℕ) (q : Request) : Ledger → Type 0 where
   still : q .code ≢ 13 → Change a n q a
   turned : q .code ≢ 13 → (b : Block) → Steady a n b → Change a n q (onBlock a n b)
   -- the file that block n writes: its bytes, or it is dropped
-  worked : q .code ≢ 13 → (s : ℕ) (ub fr : List ℕ) (f : File) (b : Block) → block a n ≡ writing s ub → f .name ≡ (file a s) .name → Steady a n b → Change a n q (onFile a fr s f n b)
+  worked : q .code ≢ 13 → (s : ℕ) (ub fr : List ℕ) (f : File) (b : Block) → block a n ≡ writing s ub → f .name ≡ (file a s) .name → Steady a n b
+      → Change a n q (onFile a fr s f n b)
   dropped : q .code ≢ 13 → (s : ℕ) (ub : List ℕ) → block a n ≡ writing s ub → Change a n q (onFile a (a .free) s (withMark (file a s)) n closed)
   -- a new file; one deleted by its name; one renamed by its name
   made : q .code ≢ 13 → (s : ℕ) → legal (q .name) 0 ≡ true → fileNamed (q .name) (a .slots) ≡ nowhere → vacantSlot (a .slots) ≡ slot s
       → Change a n q (onFile a (a .free) s (newFile (q .name) (q .date)) n (writing s []))
-  gone : (s : ℕ) → q .code ≡ 12 → fileNamed (q .name) (a .slots) ≡ slot s → busy true s (a .blocks) 8 ≡ false → Change a n q (onFile a (a .free ++ (file a s) .secs) s (withMark (file a s)) n (block a n))
-  retitled : (s : ℕ) → q .code ≡ 13 → fileNamed (q .name) (a .slots) ≡ slot s → busy true s (a .blocks) 8 ≡ false → legal (q .rename) 0 ≡ true → fileNamed (q .rename) (a .slots) ≡ nowhere
+  gone : (s : ℕ) → q .code ≡ 12 → fileNamed (q .name) (a .slots) ≡ slot s → busy true s (a .blocks) 8 ≡ false
+      → Change a n q (onFile a (a .free ++ (file a s) .secs) s (withMark (file a s)) n (block a n))
+  retitled : (s : ℕ) → q .code ≡ 13 → fileNamed (q .name) (a .slots) ≡ slot s → busy true s (a .blocks) 8 ≡ false → legal (q .rename) 0 ≡ true
+      → fileNamed (q .rename) (a .slots) ≡ nowhere
       → Change a n q (onFile a (a .free) s (withName (file a s) (q .rename)) n (block a n))
 
 abbrev pub Changes : Ledger → ℕ → Request → Fate → Type 0
@@ -62,7 +65,8 @@ last-code : (c : ℕ) → served c ≡ true → c ≢ 0 → c ≢ 1 → c ≢ 2 
 unfolding served
 last-code c h a0 a1 a2 a4 a5 a6 a7 a9 a12 = go (within 0 2 c) refl (within 4 7 c) refl (eqb c 9) refl h
   where
-    go : (u : Bool) → within 0 2 c ≡ u → (v : Bool) → within 4 7 c ≡ v → (w : Bool) → eqb c 9 ≡ w → pick u true (pick v true (pick w true (within 12 13 c))) ≡ true → c ≡ 13
+    go : (u : Bool) → within 0 2 c ≡ u → (v : Bool) → within 4 7 c ≡ v → (w : Bool) → eqb c 9 ≡ w
+        → pick u true (pick v true (pick w true (within 12 13 c))) ≡ true → c ≡ 13
     go true e v f w g h = absurd (low-code c (within-is 0 2 c e .1) a0 a1 a2)
     go false e true f w g h = let p = within-is 4 7 c f in absurd (mid-code c (p .0) (p .1) a4 a5 a6 a7)
     go false e false f true g h = absurd (a9 (eqb-true c 9 g))
@@ -79,7 +83,8 @@ module _ (M S : ℕ) (a : Ledger) (n : ℕ) (q : Request) where
   change-transfer : q .code ≢ 13 → (o : Block) → block a n ≡ o → C (transferred M S a n q o)
   change-transfer ne closed e = tt
   change-transfer ne (listing p) e = tt
-  change-transfer ne (reading s j i) e = pick-all C (eqb i 0) _ _ (pick-all C (ltb j (length ((file a s) .secs))) _ _ (turned ne _ (λ t h. absurd (omega arith))) tt) (turned ne _ (λ t h. absurd (omega arith)))
+  change-transfer ne (reading s j i) e =
+      pick-all C (eqb i 0) _ _ (pick-all C (ltb j (length ((file a s) .secs))) _ _ (turned ne _ (λ t h. absurd (omega arith))) tt) (turned ne _ (λ t h. absurd (omega arith)))
   change-transfer ne (writing s ub) e =
       pick-all C (eqb (length ub) 0) _ _ (change-taken ne s ub (a .free) e) (pick-all C (eqb (length ub) 251) _ _ (worked ne s ub (a .free) _ _ e refl (λ t h. ap writes e ∙ h)) (turned ne _ (λ t h. ap writes e ∙ h)))
 
@@ -142,7 +147,8 @@ module _ (M S : ℕ) (a : Ledger) (n : ℕ) (q : Request) where
           (onSought y (granted 0 (onFile a (a .free) s (withName (file a s) (q .rename)) n (block a n))) (λ t. denied 3)))))
       go h nowhere e y f = tt
       go h (slot s) e (slot t) f = pick-all C (busy true s (a .blocks) 8) _ _ tt (pick-all C (writeProtected (attributes a s)) _ _ tt tt)
-      go h (slot s) e nowhere f = pick-cases C (busy true s (a .blocks) 8) _ _ (λ k. tt) (λ k. pick-all C (writeProtected (attributes a s)) _ _ tt (retitled s c e k h f))
+      go h (slot s) e nowhere f =
+          pick-cases C (busy true s (a .blocks) 8) _ _ (λ k. tt) (λ k. pick-all C (writeProtected (attributes a s)) _ _ tt (retitled s c e k h f))
 
   not13 : (k : ℕ) → eqb (q .code) k ≡ true → k ≢ 13 → q .code ≢ 13
   not13 k h ne e = ne (sym (eqb-true (q .code) k h) ∙ e)
@@ -185,8 +191,10 @@ pub data Slot (a a′ : Ledger) (n : ℕ) (q : Request) (s : ℕ) : Type 0 where
   kept : file a′ s ≡ file a s → (q .code ≡ 13 → fileNamed (q .name) (a .slots) ≢ slot s) → Slot a a′ n q s
   own : (ub : List ℕ) → block a n ≡ writing s ub → Slot a a′ n q s
   fresh : vacantSlot (a .slots) ≡ slot s → Slot a a′ n q s
-  lost : q .code ≡ 12 → fileNamed (q .name) (a .slots) ≡ slot s → busy true s (a .blocks) 8 ≡ false → (s < length (a .slots) → file a′ s ≡ withMark (file a s)) → Slot a a′ n q s
-  moved : q .code ≡ 13 → fileNamed (q .name) (a .slots) ≡ slot s → busy true s (a .blocks) 8 ≡ false → (s < length (a .slots) → file a′ s ≡ withName (file a s) (q .rename)) → Slot a a′ n q s
+  lost : q .code ≡ 12 → fileNamed (q .name) (a .slots) ≡ slot s → busy true s (a .blocks) 8 ≡ false
+      → (s < length (a .slots) → file a′ s ≡ withMark (file a s)) → Slot a a′ n q s
+  moved : q .code ≡ 13 → fileNamed (q .name) (a .slots) ≡ slot s → busy true s (a .blocks) 8 ≡ false
+      → (s < length (a .slots) → file a′ s ≡ withName (file a s) (q .rename)) → Slot a a′ n q s
 
 pub slot-fate : (a a′ : Ledger) (n : ℕ) (q : Request) → Change a n q a′ → (s : ℕ) → Slot a a′ n q s
 slot-fate a a′ n q (still ne) s = kept refl (λ c. absurd (ne c))
@@ -242,7 +250,8 @@ rename-legal a a′ n q (gone s x y by) e = absurd (omega (arith, e, x))
 rename-legal a a′ n q (retitled s x y by w v) e = w
 
 -- who writes a slot afterwards wrote it before, or has just made it
-pub writes-before : (a a′ : Ledger) (n : ℕ) (q : Request) → n < length (a .blocks) → Change a n q a′ → (m s : ℕ) → writes (block a′ m) ≡ suc s → vacantSlot (a .slots) ≢ slot s → writes (block a m) ≡ suc s
+pub writes-before : (a a′ : Ledger) (n : ℕ) (q : Request) → n < length (a .blocks) → Change a n q a′ → (m s : ℕ) → writes (block a′ m) ≡ suc s
+    → vacantSlot (a .slots) ≢ slot s → writes (block a m) ≡ suc s
 writes-before a a′ n q hn c m s w v = go (ℕ-discrete m n)
   where
     here : (b : Block) → writes (getD (set (a .blocks) n b) m closed) ≡ suc s → m ≡ n → writes b ≡ suc s
@@ -308,16 +317,17 @@ module _ (a : Ledger) (t : Tidy (a .slots)) where
       tidy-set (a .slots) t s (newFile (q .name) (q .date)) (seek-found (λ x. vacant x 0) (a .slots) s w .low) ln (live-used (q .name) l)
       (λ v i b. live-used (nameOf (a .slots) i) (room-before (a .slots) s w i b))
       (λ v j ne b u. found-none (q .name) (a .slots) t y j b u)
-  tidy-change a′ n q ln lr ow (gone s x y by) = marked s (seek-found (λ x. Rattle.rules.specs.Directory.named x (q .name) 0) (a .slots) s y .low)
+  tidy-change a′ n q ln lr ow (gone s x y by) = marked s (seek-found (λ x. named x (q .name) 0) (a .slots) s y .low)
   tidy-change a′ n q ln lr ow (retitled s x y by w v) =
       let l = legal-live (q .rename) w in
-      let p = seek-found (λ x. Rattle.rules.specs.Directory.named x (q .name) 0) (a .slots) s y in
+      let p = seek-found (λ x. named x (q .name) 0) (a .slots) s y in
       let hit = named-hit (nameOf (a .slots) s) (q .name) (p .hit) in
       tidy-set (a .slots) t s (withName (file a s) (q .rename)) (p .low) lr (live-used (q .rename) l)
-      (λ u i b. go i (p .low) b (hit .live) (neverUsed (nameOf (a .slots) i) 0) refl)
+      (λ u i b. go i (p .low) b (hit .alive) (neverUsed (nameOf (a .slots) i) 0) refl)
       (λ u j ne b k. found-none (q .rename) (a .slots) t v j b k)
     where
-      go : (i : ℕ) → s < length (a .slots) → i < s → live (nameOf (a .slots) s) 0 ≡ true → (u : Bool) → neverUsed (nameOf (a .slots) i) 0 ≡ u → u ≡ false
+      go : (i : ℕ) → s < length (a .slots) → i < s → live (nameOf (a .slots) s) 0 ≡ true → (u : Bool) → neverUsed (nameOf (a .slots) i) 0 ≡ u
+          → u ≡ false
       go i hs b l false e = refl
       go i hs b l true e = absurd-bool l (t .solid i s b hs e)
 
@@ -331,8 +341,8 @@ module _ (M S : ℕ) (ds img tab : List ℕ) (a : Ledger) (r : Agrees M S ds img
       go : (b : Block) → Keeps S (slotsOf ds) tab m (a .slots) b → opens b ≡ suc s → (live (nameOf (a .slots) s) 0 ≡ true) × (s < length (a .slots))
       go closed k e = absurd (omega arith)
       go (listing p) k e = absurd (omega arith)
-      go (reading t j i) k e = let q : t ≡ s = omega arith in (subst (λ (x : ℕ). live (nameOf (a .slots) x) 0 ≡ true) q (k .live), omega (arith, q, k .slot, r .ns))
-      go (writing t ub) k e = let q : t ≡ s = omega arith in (subst (λ (x : ℕ). live (nameOf (a .slots) x) 0 ≡ true) q (k .live), omega (arith, q, k .slot, r .ns))
+      go (reading t j i) k e = let q : t ≡ s = omega arith in (subst (λ (x : ℕ). live (nameOf (a .slots) x) 0 ≡ true) q (k .alive), omega (arith, q, k .slot, r .ns))
+      go (writing t ub) k e = let q : t ≡ s = omega arith in (subst (λ (x : ℕ). live (nameOf (a .slots) x) 0 ≡ true) q (k .alive), omega (arith, q, k .slot, r .ns))
 
   pub own-live : (n : ℕ) → n < 8 → (s : ℕ) (ub : List ℕ) → block a n ≡ writing s ub → (s < length (a .slots)) × (live (nameOf (a .slots) s) 0 ≡ true)
   own-live n hn s ub e = let p = open-live n s hn (ap opens e) in (p .1, p .0)

@@ -4,21 +4,22 @@ use mathlib.Core.Logic.{_≢_}
 use mathlib.Core.Bool.{true}
 use mathlib.Core.List.{List, [], _∷_, _++_}
 use Prim.Native.Nat.{ℕ, _+_, _-_, _*_, _/_, _%_, _≤_, _<_}
+use lib.Dec.{eqb}
 use lib.ListN.{length, getD, replicate}
-use Rattle.rules.specs.Bytes.{byteAt, part, over, one, zeros}
+use Rattle.rules.specs.Bytes.{pick, byteAt, part, over, one, zeros}
 use Rattle.rules.specs.Image.{lastTrack, perTrack}
 use Rattle.rules.specs.Names.{legal}
 use Rattle.rules.specs.Directory.{live, slots, sizeAt, member}
 use Rattle.rules.specs.Outcome.{out}
 use Rattle.rules.specs.Block.{idle, presettable}
-use Rattle.rules.specs.Census.{Survey, survey, census}
+use Rattle.rules.specs.Census.{Survey, survey, census, tally}
 use Rattle.laws.specs.Small.{Small}
 use Rattle.laws.specs.Effects.{answerNumbers, presetNumbers, extensionNumbers}
 use Rattle.laws.specs.Surveys.{surveyNumbers}
 use Rattle.demands.specs.Ledger.{Ledger, activity, block, nowhere, slot, fileNamed, vacantSlot}
-use Rattle.demands.specs.Survey.{ledgerOf, ledgerNumbers, ledgerOwners, fileAt}
-use Rattle.demands.specs.Service.{Service, replied, saysOf, tableOf, ansOf, byteOf, imgOf, tabOf, Call, setting, extending, asking, Machine, answers, next, entry, run, log}
-use Rattle.demands.specs.History.{history, Told, shown, filesOn, Unnamed, Survives, nameThen, Only, sentBy, Reads}
+use Rattle.demands.specs.Diskette.{ledgerOf, ledgerNumbers, ledgerOwners, fileAt}
+use Rattle.demands.specs.Service.{Service, replied, saysOf, tableOf, ansOf, byteOf, imgOf, tabOf, Call, setting, extending, asking, Machine, answers, gave, next, entry, run, log}
+use Rattle.demands.specs.History.{history, Told, shown, ahead, filesOn, Unnamed, Survives, nameThen, Only, sentBy, Reads}
 
 -- ---- the start
 
@@ -124,7 +125,8 @@ module _ (σ : Service) (M S : ℕ) where
   -- a new file is opened for write: accepted
   pub record Created (x : Machine) (a : Ledger) (n o b : ℕ) : Type 0 where
     pub opens : answers σ x n b ≡ 0
-    pub writes : (cs : List Call) → Only n 0 (log σ (next σ x (asking n b)) cs) → WrittenTo (next σ x (asking n b)) (ledgerAfter x a n b) n o (nameIn x n) cs
+    pub writes : (cs : List Call) → Only n 0 (log σ (next σ x (asking n b)) cs)
+        → WrittenTo (next σ x (asking n b)) (ledgerAfter x a n b) n o (nameIn x n) cs
 
 -- what the history has after these calls: a fold over the log, from the ledger of the start's image on
 abbrev pub told : Service → Machine → List Call → Ledger
@@ -150,10 +152,14 @@ pub record Sound (σ : Service) (x : Machine) (cs : List Call) : Type 0 where
   pub accepted : (xs ys : List ℕ) → length xs ≡ dataSectors (x .img) → length ys ≡ dataSectors (x .img)
       → σ .census (run σ x cs .img) xs ys ≡ survey 0 (ledgerNumbers (perOf x) (told σ x cs)) (ledgerOwners (told σ x cs))
   -- each data sector once
-  pub each-once : (k : ℕ) → k < dataSectors (x .img) → Rattle.rules.specs.Census.tally k (ledgerNumbers (perOf x) (told σ x cs)) ≡ 1
+  pub each-once : (k : ℕ) → k < dataSectors (x .img) → tally k (ledgerNumbers (perOf x) (told σ x cs)) ≡ 1
   pub no-more : length (ledgerNumbers (perOf x) (told σ x cs)) ≡ dataSectors (x .img)
   -- every file's bytes, an unfinished sector's from its control block, are what the history says
   pub files : filesOn (perOf x) (run σ x cs .img) (run σ x cs .tab) (slots (run σ x cs .img) (perOf x)) ≡ shown (told σ x cs)
+  -- a block that reads by the history gets the first of the bytes that are still to come, or 8
+  pub readers : (n b : ℕ) → n < 8 → activity (block (told σ x cs) n) ≡ 1 → byteAt (run σ x cs .tab) (320 * n + 0) ≡ 0
+      → (answers σ (run σ x cs) n b ≡ pick (eqb (length (ahead (told σ x cs) (block (told σ x cs) n))) 0) 8 0)
+      × (gave σ (run σ x cs) n b ≡ getD (ahead (told σ x cs) (block (told σ x cs) n)) 0 0)
   -- the slots stand where they stood, and a file that no call deletes or renames keeps slot, sectors and bytes
   pub places : slots (run σ x cs .img) (perOf x) ≡ slots (x .img) (perOf x)
   pub spared : (s : ℕ) → s < length (slots (x .img) (perOf x)) → live (x .img) (getD (slots (x .img) (perOf x)) s 0) ≡ true

@@ -12,7 +12,7 @@ use Rattle.rules.specs.Census.{Survey, survey}
 use Rattle.rules.specs.All.{rules}
 use Rattle.chains.specs.Walk.{walk}
 use Rattle.demands.specs.Ledger.{seek, openedToWrite, performed, fate}
-use Rattle.demands.specs.Survey.{ledgerOf, fileAt, filesAt}
+use Rattle.demands.specs.Diskette.{ledgerOf, fileAt, filesAt}
 use Rattle.demands.specs.Service.{Service, flex, replied, saysOf, Call, setting, asking, next, entry, run, log}
 use Rattle.demands.specs.History.{history, sentBy, nameThen}
 use Rattle.demands.specs.Demands.{told, Demand2, Demand3, Created, surveyFirst, surveySecond}
@@ -111,35 +111,33 @@ refusing-fails d =
 named : List Call
 named = setting 0 4 65 ∷ setting 0 12 66 ∷ setting 0 0 2 ∷ []
 
+-- whatever the call is, as long as presets are ours: the demand has the new file created in the first slot
+created : (f : List ℕ → List ℕ → ℕ → ℕ → Out) → Demand2 (withCall f)
+    → Created (withCall f) 1 5 (run (withCall f) blank named) (told (withCall f) blank named) 0 1040 0
+unfolding rules blank blankImage blankStores run next named log entry history ledgerOf filesAt fileAt walk seek
+created f d = d .creates blank blank-start named 0 0 0 (record { block = omega arith; function = refl; drive = refl }) refl refl refl refl
+
 pub deaf-fails : Demand2 deaf → ⊥
-unfolding rules blank blankImage blankStores run next named log entry history ledgerOf filesAt fileAt walk seek fate performed openedToWrite sentBy nameThen
-deaf-fails d =
-    let c : Created deaf 1 5 (run deaf blank named) (told deaf blank named) 0 1040 0 = d .creates blank blank-start named 0 0 0 (record { block = omega arith; function = refl; drive = refl }) refl refl refl refl in
-    let q : _≡_ {A = ℕ} 18 0 = c .opens in omega arith
+deaf-fails d = let q : _≡_ {A = ℕ} 18 0 = created _ d .opens in omega arith
 
 pub stuck-fails : Demand2 stuck → ⊥
 unfolding rules blank blankImage blankStores run next named log entry history ledgerOf filesAt fileAt walk seek fate performed openedToWrite sentBy nameThen
 stuck-fails d =
-    let c : Created stuck 1 5 (run stuck blank named) (told stuck blank named) 0 1040 0 = d .creates blank blank-start named 0 0 0 (record { block = omega arith; function = refl; drive = refl }) refl refl refl refl in
-    let w = c .writes (asking 0 7 ∷ setting 0 0 4 ∷ []) ((λ q. refl), tt) in
+    let w = created _ d .writes (asking 0 7 ∷ setting 0 0 4 ∷ []) ((λ q. refl), tt) in
     let k = w .close 0 refl (omega arith) in
     let r = k .back (setting 0 0 1 ∷ []) tt 0 0 (record { block = omega arith; function = refl; drive = refl }) refl refl in
     let y = r .reads (asking 0 0 ∷ []) ((λ q. refl), tt) in
     let q : _≡_ {A = ℕ} 42 7 = y .0 refl .1 in omega arith
 
 pub nodding-fails : Demand2 nodding → ⊥
-unfolding rules blank blankImage blankStores run next named log entry history ledgerOf filesAt fileAt walk seek fate performed openedToWrite sentBy nameThen
+unfolding rules blank blankImage blankStores run next named log entry sentBy
 nodding-fails d =
-    let c : Created nodding 1 5 (run nodding blank named) (told nodding blank named) 0 1040 0 = d .creates blank blank-start named 0 0 0 (record { block = omega arith; function = refl; drive = refl }) refl refl refl refl in
-    let w = c .writes (asking 0 7 ∷ []) ((λ q. refl), tt) in
+    let w = created _ d .writes (asking 0 7 ∷ []) ((λ q. refl), tt) in
     let q : _≡_ {A = ℕ} 0 1 = w .size in omega arith
 
 pub eager-fails : Demand2 eager → ⊥
-unfolding rules blank blankImage blankStores run next named log entry history ledgerOf filesAt fileAt walk seek fate performed openedToWrite sentBy nameThen
-eager-fails d =
-    let c : Created eager 1 5 (run eager blank named) (told eager blank named) 0 1040 0 = d .creates blank blank-start named 0 0 0 (record { block = omega arith; function = refl; drive = refl }) refl refl refl refl in
-    let w = c .writes [] tt in
-    let q : _≡_ {A = ℕ} 1 0 = w .size in omega arith
+unfolding rules blank blankImage blankStores run next named log entry sentBy
+eager-fails d = let q : _≡_ {A = ℕ} 1 0 = created _ d .writes [] tt .size in omega arith
 
 pub counting-fails : Demand3 counting → ⊥
 unfolding rules blank blankImage blankStores run log history ledgerOf filesAt fileAt walk

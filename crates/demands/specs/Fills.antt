@@ -36,7 +36,7 @@ one-is v = refl
 
 module _ (M S : ℕ) (z : Shape M S) (ds : List ℕ) (d : Listing S ds) (img tab : List ℕ) (a : Ledger) (r : Agrees M S ds img tab a) where
   -- ---- the last sector of a live slot gets the bytes v
-  module _ (s : ℕ) (hs : s < length (slotsOf ds)) (live : Rattle.rules.specs.Directory.live ((getD (a .slots) s noFile) .name) 0 ≡ true)
+  module _ (s : ℕ) (hs : s < length (slotsOf ds)) (live : live ((getD (a .slots) s noFile) .name) 0 ≡ true)
       (some : 1 ≤ length ((getD (a .slots) s noFile) .secs)) (v : List ℕ) (lv : length v ≡ 252) where
     abbrev f : File
     f = getD (a .slots) s noFile
@@ -152,7 +152,7 @@ module _ (M S : ℕ) (z : Shape M S) (ds : List ℕ) (d : Listing S ds) (img tab
             act = same 2 (omega arith) (omega arith) ∙ w .act;
             drive = same 3 (omega arith) (omega arith) ∙ w .drive;
             slot = w .slot;
-            live = w .live;
+            alive = w .alive;
             place = tp-same tab tab′ n (λ i h. same i (omega arith) (omega arith)) ∙ w .place;
             start = s2 17 (omega arith) ∙ w .start;
             size = s2 21 (omega arith) ∙ w .size;
@@ -166,7 +166,8 @@ module _ (M S : ℕ) (z : Shape M S) (ds : List ℕ) (d : Listing S ds) (img tab
 
           pub write-in : Agrees M S ds img tab′ (onBlock a n (writing s (ub ++ b ∷ [])))
           unfolding one
-          write-in = on-block M S z ds d img tab a r n hn tab′ (writing s (ub ++ b ∷ [])) (turned tab n ps (omega arith)) (ap opens (sym e)) (ap writes (sym e)) write-now
+          write-in =
+              on-block M S z ds d img tab a r n hn tab′ (writing s (ub ++ b ∷ [])) (turned tab n ps (omega arith)) (ap opens (sym e)) (ap writes (sym e)) write-now
 
       -- ---- the byte at index 255
       abbrev fs : ℕ → List Put
@@ -176,13 +177,14 @@ module _ (M S : ℕ) (z : Shape M S) (ds : List ℕ) (d : Listing S ds) (img tab
       unfolding one
       fsame b i u v = puts-clear (fs b) tab (320 * n) i (omega arith)
 
-      full-now : (b : ℕ) (f′ : File) → f′ .secs ≡ g .secs → f′ .name ≡ g .name → 1 ≤ length (g .secs) → Writing S (slotsOf ds) (puts tab (320 * n) (fs b)) n f′ s []
+      full-now : (b : ℕ) (f′ : File) → f′ .secs ≡ g .secs → f′ .name ≡ g .name → 1 ≤ length (g .secs)
+          → Writing S (slotsOf ds) (puts tab (320 * n) (fs b)) n f′ s []
       unfolding one
       full-now b f′ es en so = record {
         act = fsame b 2 (omega arith) (omega arith) ∙ w .act;
         drive = fsame b 3 (omega arith) (omega arith) ∙ w .drive;
         slot = w .slot;
-        live = ap (λ (x : List ℕ). live x 0) en ∙ w .live;
+        alive = ap (λ (x : List ℕ). live x 0) en ∙ w .alive;
         place = tp-same tab (puts tab (320 * n) (fs b)) n (λ i h. fsame b i (omega arith) (omega arith)) ∙ w .place;
         start = t2-same tab (puts tab (320 * n) (fs b)) n 17 (fsame b 17 (omega arith) (omega arith)) (fsame b 18 (omega arith) (omega arith)) ∙ w .start ∙ ap (λ (x : List ℕ). adr S (first x 0)) (sym es);
         size = t2-same tab (puts tab (320 * n) (fs b)) n 21 (fsame b 21 (omega arith) (omega arith)) (fsame b 22 (omega arith) (omega arith)) ∙ w .size ∙ ap length (sym es);
@@ -200,7 +202,7 @@ module _ (M S : ℕ) (z : Shape M S) (ds : List ℕ) (d : Listing S ds) (img tab
       full-step b lb =
           let so : 1 ≤ length (g .secs) = w .some (omega arith) in
           let v = padTo 251 ub ++ b ∷ [] in
-          fill-step s (w .slot) (w .live) so v (omega (arith, length-snoc (padTo 251 ub) b, length-pad 251 ub)) n (puts tab (320 * n) (fs b)) (writing s []) ub hn (turned tab n (fs b) (omega arith)) e
+          fill-step s (w .slot) (w .alive) so v (omega (arith, length-snoc (padTo 251 ub) b, length-pad 251 ub)) n (puts tab (320 * n) (fs b)) (writing s []) ub hn (turned tab n (fs b) (omega arith)) e
           (subst (λ (f′ : File). Writing S (slotsOf ds) (puts tab (320 * n) (fs b)) n f′ s []) (sym (getD-set-same (a .slots) s (withLast g v) noFile (omega (arith, r .ns, w .slot))))
           (full-now b (withLast g v) refl refl so))
           (alone1 M S z ds d img tab a r n hn (writing s []) (ap opens (sym e)) (ap writes (sym e)))
@@ -221,7 +223,8 @@ module _ (M S : ℕ) (z : Shape M S) (ds : List ℕ) (d : Listing S ds) (img tab
     shut-step : Agrees M S ds img (puts tab (320 * n) shutPs) (onBlock a n closed)
     shut-step = shut-block M S z ds d img tab a r n hn (puts tab (320 * n) shutPs) closed shut-turn refl refl shut-now
 
-    close-writing : (q : Request) (s : ℕ) (ub : List ℕ) → getD (a .blocks) n closed ≡ writing s ub → Meets M S ds img tab n (closeWriting img tab M S (320 * n)) (shutBlock M S a n q (writing s ub))
+    close-writing : (q : Request) (s : ℕ) (ub : List ℕ) → getD (a .blocks) n closed ≡ writing s ub
+        → Meets M S ds img tab n (closeWriting img tab M S (320 * n)) (shutBlock M S a n q (writing s ub))
     unfolding closeWriting shut mark
     close-writing q s ub e =
         let w = w s ub e in
@@ -240,7 +243,7 @@ module _ (M S : ℕ) (z : Shape M S) (ds : List ℕ) (d : Listing S ds) (img tab
         let ld = last-data M S z (g s ub e .secs) sd so in
         rw (w .pos, sector-data M S z (lastOf (g s ub e .secs) 0) ld, sector-index M S z (lastOf (g s ub e .secs) 0) ld, buffer-is s ub e 252 (omega arith) (omega arith)) (
           refl,
-          fill-step s (w .slot) (w .live) so (padTo 252 ub) (length-pad 252 ub) n (puts tab (320 * n) shutPs) closed ub hn shut-turn e shut-now
+          fill-step s (w .slot) (w .alive) so (padTo 252 ub) (length-pad 252 ub) n (puts tab (320 * n) shutPs) closed ub hn shut-turn e shut-now
               (λ n′ h e w. absurd (omega arith)) (λ n′ h e w. absurd (omega arith)),
         )))
       where
@@ -251,15 +254,18 @@ module _ (M S : ℕ) (z : Shape M S) (ds : List ℕ) (d : Listing S ds) (img tab
             go (yes p) = ap₂ (λ (x y : ℕ). eqb x y) (w .idle p) refl ∙ sym (eq-eqb (length ub) 0 p)
             go (no p) = ne-eqb (tb tab n 34) 0 (omega (arith, w .busy (omega arith))) ∙ sym (ne-eqb (length ub) 0 p)
 
-    pub close-meets : (q : Request) (b : Block) → getD (a .blocks) n closed ≡ b → b ≢ closed → Meets M S ds img tab n (close img tab M S (320 * n)) (shutBlock M S a n q b)
+    pub close-meets : (q : Request) (b : Block) → getD (a .blocks) n closed ≡ b → b ≢ closed
+        → Meets M S ds img tab n (close img tab M S (320 * n)) (shutBlock M S a n q b)
     unfolding close shut
     close-meets q closed e ne = absurd (ne refl)
     close-meets q (listing p) e ne =
         let k : Listed (slotsOf ds) tab n p = subst (λ (b : Block). Keeps S (slotsOf ds) tab n (a .slots) b) e (r .keeps n hn) in
         rw (k .act) (refl, shut-step)
     close-meets q (reading s j i) e ne =
-        let k : Reading S (slotsOf ds) tab n (getD (a .slots) s noFile) s j i = subst (λ (b : Block). Keeps S (slotsOf ds) tab n (a .slots) b) e (r .keeps n hn) in
+        let k : Reading S (slotsOf ds) tab n (getD (a .slots) s noFile) s j i =
+        subst (λ (b : Block). Keeps S (slotsOf ds) tab n (a .slots) b) e (r .keeps n hn) in
         rw (k .act) (refl, shut-step)
     close-meets q (writing s ub) e ne =
-        let k : Writing S (slotsOf ds) tab n (getD (a .slots) s noFile) s ub = subst (λ (b : Block). Keeps S (slotsOf ds) tab n (a .slots) b) e (r .keeps n hn) in
+        let k : Writing S (slotsOf ds) tab n (getD (a .slots) s noFile) s ub =
+        subst (λ (b : Block). Keeps S (slotsOf ds) tab n (a .slots) b) e (r .keeps n hn) in
         rw (k .act) (close-writing q s ub e)

@@ -7,20 +7,23 @@ use Rattle.rules.specs.Stores.{stored, puts}
 use Rattle.rules.specs.Outcome.{answer, Out}
 use Rattle.rules.specs.Block.{blockAt, preset, extension}
 use Rattle.rules.specs.Call.{call}
-use Rattle.rules.specs.Census.{Survey, survey, census}
+use Rattle.rules.specs.Census.{Survey, survey, census, owners, listed}
 use Rattle.rules.specs.Text.{Told, errorText}
+use Rattle.rules.specs.Host.{hostCensus}
 use Rattle.laws.specs.Effects.{Refused, lengths-kept, call-lawful, call-wrong, preset-quiet, extension-quiet}
 use Rattle.laws.specs.Surveys.{Surveyed, census-is}
 use Rattle.demands.specs.Service.{flex, leaves, Reply}
 use Rattle.demands.specs.Demands.{Demand1, dataSectors, surveyAnswer, surveyFirst, surveySecond}
+use Rattle.rules.specs.Image.{perTrack}
 
 refused : (img tab : List ℕ) (n b : ℕ) → answer (call img tab n b) ≢ 0 → Refused tab (blockAt n) (call img tab n b)
 refused img tab n b h = call-lawful img tab n b .refused h
 
 surveyed : (img xs ys : List ℕ)
-    → Surveyed img (dataSectors img) 65535 (Rattle.rules.specs.Census.listed img (Rattle.rules.specs.Image.perTrack img)) (Rattle.rules.specs.Census.owners img (Rattle.rules.specs.Image.perTrack img)) xs ys
+    → Surveyed img (dataSectors img) 65535 (listed img (perTrack img)) (owners img (perTrack img)) xs ys
     (surveyAnswer (census img xs ys)) (surveyFirst (census img xs ys)) (surveySecond (census img xs ys))
-surveyed img xs ys = census-is img xs ys (surveyAnswer (census img xs ys)) (surveyFirst (census img xs ys)) (surveySecond (census img xs ys)) (parts (census img xs ys))
+surveyed img xs ys =
+    census-is img xs ys (surveyAnswer (census img xs ys)) (surveyFirst (census img xs ys)) (surveySecond (census img xs ys)) (parts (census img xs ys))
   where
     parts : (y : Survey) → y ≡ survey (surveyAnswer y) (surveyFirst y) (surveySecond y)
     parts (survey a us ws) = refl
@@ -48,6 +51,7 @@ pub record Unique : Type 0 where
   pub preset : (tab : List ℕ) (n i v : ℕ) (o o′ : Reply) → o ≡ flex .preset tab n i v → o′ ≡ flex .preset tab n i v → o ≡ o′
   pub extension : (tab : List ℕ) (n c : ℕ) (o o′ : Reply) → o ≡ flex .extension tab n c → o′ ≡ flex .extension tab n c → o ≡ o′
   pub census : (img xs ys : List ℕ) (o o′ : Survey) → o ≡ flex .census img xs ys → o′ ≡ flex .census img xs ys → o ≡ o′
+  pub host : (img xs ys : List ℕ) (o o′ : Survey) → o ≡ hostCensus img xs ys → o′ ≡ hostCensus img xs ys → o ≡ o′
   pub text : (t : List ℕ) (e : ℕ) (o o′ : Told) → o ≡ errorText t e → o′ ≡ errorText t e → o ≡ o′
 
 pub unique : Unique
@@ -56,5 +60,6 @@ unique = record {
   preset = λ tab n i v o o′ p q. p ∙ sym q;
   extension = λ tab n c o o′ p q. p ∙ sym q;
   census = λ img xs ys o o′ p q. p ∙ sym q;
+  host = λ img xs ys o o′ p q. p ∙ sym q;
   text = λ t e o o′ p q. p ∙ sym q;
 }

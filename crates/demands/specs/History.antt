@@ -1,16 +1,17 @@
--- The history of a list of calls: a fold over the log. It never sees image or table. What it says of files and answers.
+-- The history of a list of calls: a fold over the log, which sees neither image nor table. What it shows of files and answers; and, for
+-- comparison, the files as they stand in image and table.
 use mathlib.Core.Path.{_≡_}
 use mathlib.Core.Bool.{Bool, false}
 use mathlib.Core.List.{List, [], _∷_, _++_}
 use Prim.Native.Nat.{ℕ, zero, suc, _+_, _-_, _*_}
-use lib.ListN.{length, getD}
+use lib.ListN.{length, getD, drop}
 use lib.Dec.{eqb, ltb}
 use Rattle.rules.specs.Bytes.{pick, part, same}
 use Rattle.rules.specs.Directory.{live, placeOf}
 use Rattle.rules.specs.Block.{uses}
 use Rattle.chains.specs.Chain.{contents}
-use Rattle.demands.specs.Ledger.{File, Block, closed, listing, reading, writing, Ledger, reply, gives, after, holdsOpen, fate}
-use Rattle.demands.specs.Survey.{sectorsAt}
+use Rattle.demands.specs.Ledger.{File, Block, closed, listing, reading, writing, Ledger, reply, gives, after, holdsOpen, fate, file}
+use Rattle.demands.specs.Diskette.{sectorsAt}
 use Rattle.demands.specs.Service.{Entry}
 
 module _ (M S : ℕ) where
@@ -73,6 +74,16 @@ shownFrom bs s (f ∷ fs) =
 -- THE SHOWN HISTORY: the live files in order, by name and bytes
 abbrev pub shown : Ledger → List Shown
 shown a = shownFrom (a .blocks) 0 (a .slots)
+
+-- of a block that reads: how many bytes of its file it has had, and the bytes that are still to come
+unfoldable pub had : ℕ → ℕ → ℕ
+had j i = pick (eqb i 0) (252 * j) (252 * (j - 1) + (i - 4))
+
+abbrev pub ahead : Ledger → Block → List ℕ
+ahead a closed = []
+ahead a (listing p) = []
+ahead a (reading s j i) = drop (had j i) (concat ((file a s) .body))
+ahead a (writing s ub) = []
 
 -- in image and table: the bytes that a block which writes the slot at o holds in its buffer
 unfoldable pub buffered : List ℕ → ℕ → ℕ → List ℕ

@@ -23,6 +23,9 @@ pub record File : Type 0 where
   pub secs : List ℕ
   pub body : List (List ℕ)
 
+abbrev pub secsOf : File → List ℕ
+secsOf f = f .secs
+
 abbrev pub noFile : File
 noFile = record { name = []; mode = []; date = []; secs = []; body = [] }
 

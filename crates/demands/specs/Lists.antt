@@ -22,9 +22,10 @@ use Rattle.chains.specs.Chain.{first-getD}
 use Rattle.chains.specs.Directory.{Listing, directory-is, slot-at, length-slots, spot, spot-sector, placed-spot, behind}
 use Rattle.chains.specs.Stored.{puts-clear, puts-at}
 use Rattle.demands.specs.Ledger.{Block, closed, listing, Ledger, Request, denied, granted, onBlock, shownNext}
+use Rattle.demands.specs.Diskette.{request}
 use Rattle.demands.specs.Relation.{tb, opens, Listed, Keeps, Agrees, tp-same}
 use Rattle.demands.specs.Quiet.{turned, shut-block, idle-quiet}
-use Rattle.demands.specs.Meets.{request, Meets, meets-unless}
+use Rattle.demands.specs.Meets.{Meets, meets-unless}
 
 module _ (M S : ℕ) (z : Shape M S) (ds : List ℕ) (d : Listing S ds) (img tab : List ℕ) (a : Ledger) (r : Agrees M S ds img tab a) (n : ℕ) (hn : n < 8) where
   in-table : (k : ℕ) → k < 320 → 320 * n + k < length tab
@@ -85,11 +86,13 @@ module _ (M S : ℕ) (z : Shape M S) (ds : List ℕ) (d : Listing S ds) (img tab
       go true e =
           let w = spot S ds d s hs in
           let v = spot-sector S ds s (getD (slotsOf ds) s 0) w in
-          let q : (getD (slotsOf ds) s 0 / 256 + 1) % 256 ≡ 0 = ap (λ (l : List ℕ). getD l 1 0) (same-eq (placeOf (getD (slotsOf ds) s 0)) (zeros 3) e) in
+          let q : (getD (slotsOf ds) s 0 / 256 + 1) % 256 ≡ 0 =
+          ap (λ (l : List ℕ). getD l 1 0) (same-eq (placeOf (getD (slotsOf ds) s 0)) (zeros 3) e) in
           let q2 : (w .k + 1) % 256 ≡ 0 = sym (ap (λ (x : ℕ). (x + 1) % 256) (v .0)) ∙ q in
           absurd (omega (arith, q2, w .low, w .high, z .most-sectors))
 
-  pub next-slot-meets : (q : Request) (p : ℕ) → getD (a .blocks) n closed ≡ listing p → Meets M S ds img tab n (nextSlot img tab S (320 * n)) (shownNext M S a n q (listing p))
+  pub next-slot-meets : (q : Request) (p : ℕ) → getD (a .blocks) n closed ≡ listing p
+      → Meets M S ds img tab n (nextSlot img tab S (320 * n)) (shownNext M S a n q (listing p))
   unfolding nextSlot
   next-slot-meets q zero e =
       let k : Listed (slotsOf ds) tab n 0 = subst (λ (b : Block). Keeps S (slotsOf ds) tab n (a .slots) b) e (r .keeps n hn) in
@@ -109,7 +112,8 @@ module _ (M S : ℕ) (z : Shape M S) (ds : List ℕ) (d : Listing S ds) (img tab
       go k (yes h) =
           rw (lt-ltb (s + 1) (length (slotsOf ds)) h, lt-ltb (suc s) (length (a .slots)) (omega (arith, r .ns)))
           (subst (λ (x : ℕ). Meets M S ds img tab n (shown img (getD (slotsOf ds) x 0)) (granted 0 (onBlock a n (listing (suc (suc s)))))) (omega arith) (show-meets (suc s) (k .act) (omega arith)))
-      go k (no h) = rw (le-ltb (s + 1) (length (slotsOf ds)) (omega arith), le-ltb (suc s) (length (a .slots)) (omega (arith, r .ns))) (refl, omega arith)
+      go k (no h) =
+          rw (le-ltb (s + 1) (length (slotsOf ds)) (omega arith), le-ltb (suc s) (length (a .slots)) (omega (arith, r .ns))) (refl, omega arith)
 
   -- ---- 9
   pub read-sector-meets : (b : ℕ) → opens (getD (a .blocks) n closed) ≡ 0

@@ -65,7 +65,8 @@ module _ (M S : ℕ) (z : Shape M S) (ds : List ℕ) (d : Listing S ds) (img tab
         (λ j i h c. slot-off (256 * j + i) (λ u v. omega (arith, free-data M S z ds d img tab a r j h .0, slot-high))) (r .free)
 
   -- ---- a slot whose first byte became 255
-  pub mark-holds : (img′ : List ℕ) → getD img′ o 0 ≡ 255 → ((i : ℕ) → 1 ≤ i → i < 24 → getD img′ (o + i) 0 ≡ getD img (o + i) 0) → Holds S img′ o (withMark f)
+  pub mark-holds : (img′ : List ℕ) → getD img′ o 0 ≡ 255 → ((i : ℕ) → 1 ≤ i → i < 24 → getD img′ (o + i) 0 ≡ getD img (o + i) 0)
+      → Holds S img′ o (withMark f)
   mark-holds img′ m k =
       record {
         name = part-is img′ o 11 (set (f .name) 0 255) (length-set (f .name) 0 255 ∙ length-name) at;

@@ -3,29 +3,16 @@ use mathlib.Core.Path.{_≡_, refl, sym, _∙_, subst}
 use mathlib.Core.Logic.{_≢_}
 use mathlib.Core.Bool.{Bool, true, false}
 use mathlib.Core.List.{List, [], _∷_}
-use Prim.Native.Nat.{ℕ, _+_, _*_, _<_}
-use lib.ListN.{getD}
-use Rattle.rules.specs.Bytes.{pick, one, wordAt, part}
+use Prim.Native.Nat.{ℕ, _*_, _<_}
+use Rattle.rules.specs.Bytes.{pick, one}
 use Rattle.rules.specs.Stores.{stored, put, puts}
 use Rattle.rules.specs.Outcome.{Outcome, refuse, done, Effect, settled, answer, given, onImage, onBlock}
 use Rattle.laws.specs.Addresses.{Shape}
 use Rattle.chains.specs.Directory.{Listing}
 use Rattle.laws.specs.Stores.{puts-append}
-use Rattle.demands.specs.Ledger.{Ledger, Request, Fate, denied, granted, reply, gives, after}
+use Rattle.demands.specs.Ledger.{Ledger, Fate, denied, granted, reply, gives, after}
 use Rattle.demands.specs.Relation.{Agrees}
 use Rattle.demands.specs.Quiet.{answered}
-
--- what block n asks for, as a call with the byte b finds it
-abbrev pub request : List ℕ → ℕ → ℕ → Request
-request tab n b = record {
-  code = getD tab (320 * n + 0) 0;
-  drive = getD tab (320 * n + 3) 0;
-  name = part tab (320 * n + 4) 11;
-  rename = part tab (320 * n + 53) 11;
-  date = part tab (320 * n + 25) 3;
-  position = wordAt tab (320 * n + 30);
-  byte = b;
-}
 
 module _ (M S : ℕ) (ds img tab : List ℕ) (n : ℕ) where
   -- the same number, or the same byte and a ledger that image and table agree with
@@ -35,16 +22,19 @@ module _ (M S : ℕ) (ds img tab : List ℕ) (n : ℕ) where
   Meets (done b ss ps) (denied e) = ⊥
   Meets (done b ss ps) (granted b′ a) = (b ≡ b′) × Agrees M S ds (stored img ss) (puts tab (320 * n) ps) a
 
-  pub meets-pick : (u v : Bool) (x y : Outcome) (x′ y′ : Fate) → u ≡ v → (v ≡ true → Meets x x′) → (v ≡ false → Meets y y′) → Meets (pick u x y) (pick v x′ y′)
+  pub meets-pick : (u v : Bool) (x y : Outcome) (x′ y′ : Fate) → u ≡ v → (v ≡ true → Meets x x′) → (v ≡ false → Meets y y′)
+      → Meets (pick u x y) (pick v x′ y′)
   meets-pick u true x y x′ y′ e p q = rw e (p refl)
   meets-pick u false x y x′ y′ e p q = rw e (q refl)
 
   -- refused where the test does not hold
-  pub meets-unless : (u v : Bool) (e : ℕ) (x : Outcome) (x′ : Fate) → u ≡ v → e ≢ 0 → (v ≡ true → Meets x x′) → Meets (pick u x (refuse e)) (pick v x′ (denied e))
+  pub meets-unless : (u v : Bool) (e : ℕ) (x : Outcome) (x′ : Fate) → u ≡ v → e ≢ 0 → (v ≡ true → Meets x x′)
+      → Meets (pick u x (refuse e)) (pick v x′ (denied e))
   meets-unless u v e x x′ q h p = meets-pick u v x (refuse e) x′ (denied e) q p (λ k. (refl, h))
 
   -- refused where it does
-  pub meets-when : (u v : Bool) (e : ℕ) (x : Outcome) (x′ : Fate) → u ≡ v → e ≢ 0 → (v ≡ false → Meets x x′) → Meets (pick u (refuse e) x) (pick v (denied e) x′)
+  pub meets-when : (u v : Bool) (e : ℕ) (x : Outcome) (x′ : Fate) → u ≡ v → e ≢ 0 → (v ≡ false → Meets x x′)
+      → Meets (pick u (refuse e) x) (pick v (denied e) x′)
   meets-when u v e x x′ q h p = meets-pick u v (refuse e) x (denied e) x′ q (λ k. (refl, h)) p
 
 -- a refusal's number is not 0

@@ -13,7 +13,7 @@ use Rattle.laws.specs.Tests.{both, either, within-is}
 use Rattle.rules.specs.Bytes.{pick, within, wordAt, part, one, zeros}
 use Rattle.rules.specs.Stores.{store, stored, Put, put, puts}
 use Rattle.rules.specs.Names.{isLetter, isWord, legal}
-use Rattle.rules.specs.Directory.{slotsOf, live, neverUsed, named, vacant, placeOf}
+use Rattle.rules.specs.Directory.{slotsOf, live, neverUsed, named, vacant, placeOf, deleted}
 use Rattle.rules.specs.Outcome.{refuse, done, onSlot, onNone}
 use Rattle.rules.specs.Block.{inUse}
 use Rattle.rules.specs.Files.{opened, newEntry, openRead, openWrite}
@@ -25,22 +25,24 @@ use Rattle.chains.specs.Chain.{first-getD}
 use Rattle.chains.specs.Directory.{Listing}
 use Rattle.chains.specs.Stored.{fieldOf, valuesOf, noPut, Clear, puts-clear, puts-at}
 use Rattle.demands.specs.Ledger.{File, noFile, closed, reading, writing, Ledger, denied, granted, Sought, nowhere, slot, onSought, fileNamed, vacantSlot, busy, onBlock, onFile, newFile, openedToRead, openedToWrite}
+use Rattle.demands.specs.Diskette.{request}
 use Rattle.demands.specs.Relation.{tb, t2, tp, opens, Holds, Reading, Writing, Agrees, Turn, step, step-block}
 use Rattle.demands.specs.Quiet.{turned, writes-opens}
-use Rattle.demands.specs.Meets.{request, Meets, meets-unless, meets-when}
+use Rattle.demands.specs.Meets.{Meets, meets-unless, meets-when}
 use Rattle.demands.specs.Searches.{legal-part, find-is, vacancy-is, in-use-is, lookedUp, seek-found, named-hit, vacant-hit, dead-shut, not-busy, not-written}
 use Rattle.demands.specs.Marks.{slot-at, slot-frame, slot-free}
 
 -- ---- a legal name is live
 letter-live : (x : ℕ) → isLetter x ≡ true → pick (eqb x 0) false (pick (leb 128 x) false true) ≡ true
 unfolding isLetter
-letter-live x h = either (within 65 90 x) (within 97 122 x) h (λ e. now 65 90 (omega arith) (omega arith) e) (λ e. now 97 122 (omega arith) (omega arith) e)
+letter-live x h =
+    either (within 65 90 x) (within 97 122 x) h (λ e. now 65 90 (omega arith) (omega arith) e) (λ e. now 97 122 (omega arith) (omega arith) e)
   where
     now : (lo hi : ℕ) → 1 ≤ lo → hi < 128 → within lo hi x ≡ true → pick (eqb x 0) false (pick (leb 128 x) false true) ≡ true
     now lo hi a b e = let w = within-is lo hi x e in rw (ne-eqb x 0 (omega arith), lt-leb 128 x (omega arith)) refl
 
 pub legal-live : (m : List ℕ) → legal m 0 ≡ true → live m 0 ≡ true
-unfolding legal isWord part live neverUsed Rattle.rules.specs.Directory.deleted
+unfolding legal isWord part live neverUsed deleted
 legal-live m h = letter-live (getD m 0 0) (both (isLetter (getD m 0 0)) _ (both (isWord (part m 0 8)) _ h .0) .0)
 
 -- ---- the table of an open: the entry es of the slot at o goes to 4-27
@@ -55,7 +57,8 @@ module _ (M S : ℕ) (z : Shape M S) (ds : List ℕ) (d : Listing S ds) (img tab
   unfolding one placeOf
   open-turn = turned tab n ps (omega (arith, le, length-zeros 6))
 
-  at : (q j i : ℕ) → q < 6 → j < length (valuesOf (getD ps q noPut)) → fieldOf (getD ps q noPut) + j ≡ i → i < 320 → Clear i (drop (suc q) ps) → tb tab′ n i ≡ getD (valuesOf (getD ps q noPut)) j 0
+  at : (q j i : ℕ) → q < 6 → j < length (valuesOf (getD ps q noPut)) → fieldOf (getD ps q noPut) + j ≡ i → i < 320 → Clear i (drop (suc q) ps)
+      → tb tab′ n i ≡ getD (valuesOf (getD ps q noPut)) j 0
   at q j i g u v t c = puts-at ps tab (320 * n) q j i (omega arith) u v (omega (arith, r .tlen)) c
 
   open-entry : (i : ℕ) → 4 ≤ i → i < 28 → tb tab′ n i ≡ getD es (i - 4) 0
@@ -80,11 +83,13 @@ module _ (M S : ℕ) (z : Shape M S) (ds : List ℕ) (d : Listing S ds) (img tab
   open-drive = puts-clear ps tab (320 * n) 3 (omega (arith, length-zeros 6))
 
   open-pos : t2 tab′ n 30 ≡ 0
-  open-pos = word-put tab′ (320 * n + 30) 0 (omega arith) (open-zero 30 (omega arith) (omega arith)) (ap (λ (p : ℕ). getD tab′ p 0) (omega arith) ∙ open-zero 31 (omega arith) (omega arith))
+  open-pos =
+      word-put tab′ (320 * n + 30) 0 (omega arith) (open-zero 30 (omega arith) (omega arith)) (ap (λ (p : ℕ). getD tab′ p 0) (omega arith) ∙ open-zero 31 (omega arith) (omega arith))
 
   open-place : tp tab′ n ≡ placeOf o
   unfolding one placeOf
-  open-place = part-is tab′ (320 * n + 47) 3 (placeOf o) refl (λ i b. ap (λ (p : ℕ). getD tab′ p 0) (omega arith) ∙ at 4 i (47 + i) (omega arith) b refl (omega arith) (omega arith))
+  open-place =
+      part-is tab′ (320 * n + 47) 3 (placeOf o) refl (λ i b. ap (λ (p : ℕ). getD tab′ p 0) (omega arith) ∙ at 4 i (47 + i) (omega arith) b refl (omega arith) (omega arith))
 
 -- a word of a part
 word-part : (m : List ℕ) (p n i : ℕ) → i + 1 < n → wordAt (part m p n) i ≡ wordAt m (p + i)
@@ -106,7 +111,8 @@ module _ (M S : ℕ) (z : Shape M S) (ds : List ℕ) (d : Listing S ds) (img tab
     le : length es ≡ 24
     le = length-part img o 24
 
-    open-read : busy false s (a .blocks) 8 ≡ false → Agrees M S ds img (puts tab (320 * n) (ps M S z ds d img tab a r n hn 1 o es le)) (onBlock a n (reading s 0 0))
+    open-read : busy false s (a .blocks) 8 ≡ false
+        → Agrees M S ds img (puts tab (320 * n) (ps M S z ds d img tab a r n hn 1 o es le)) (onBlock a n (reading s 0 0))
     open-read free =
         step-block M S z ds d img tab a r (tab′ M S z ds d img tab a r n hn 1 o es le) n (reading s 0 0) hn (open-turn M S z ds d img tab a r n hn 1 o es le) now (λ n′ h e w. absurd (omega arith))
         (λ n′ h e w. not-written s (getD (a .blocks) n′ closed) (not-busy false s (a .blocks) 8 n′ free h))
@@ -116,7 +122,7 @@ module _ (M S : ℕ) (z : Shape M S) (ds : List ℕ) (d : Listing S ds) (img tab
           act = open-act M S z ds d img tab a r n hn 1 o es le;
           drive = open-drive M S z ds d img tab a r n hn 1 o es le ∙ dr;
           slot = hs;
-          live = alive;
+          alive = alive;
           place = open-place M S z ds d img tab a r n hn 1 o es le;
           start = open-word M S z ds d img tab a r n hn 1 o es le 17 (adr S (getD (f .secs) 0 0)) (omega arith) (omega arith)
               (word-part img o 24 13 (omega arith) ∙ (r .holds s hs .chain alive) .start ∙ ap (adr S) (first-getD (f .secs)));
@@ -143,7 +149,7 @@ module _ (M S : ℕ) (z : Shape M S) (ds : List ℕ) (d : Listing S ds) (img tab
           let q = seek-found (λ x. named x (part tab (320 * n + 4) 11) 0) (a .slots) s e in
           let hs : s < length (slotsOf ds) = omega (arith, q .low, r .ns) in
           meets-when M S ds img tab n (inUse false tab (placeOf (getD (slotsOf ds) s 0))) (busy false s (a .blocks) 8) 2 _ _ (in-use-is M S z ds d img tab a r false s hs) (omega arith)
-          (λ h. (refl, open-read s hs (named-hit ((getD (a .slots) s noFile) .name) (part tab (320 * n + 4) 11) (q .hit) .live) h))
+          (λ h. (refl, open-read s hs (named-hit ((getD (a .slots) s noFile) .name) (part tab (320 * n + 4) 11) (q .hit) .alive) h))
 
   -- ---- write
   abbrev nm : List ℕ
@@ -179,7 +185,8 @@ module _ (M S : ℕ) (z : Shape M S) (ds : List ℕ) (d : Listing S ds) (img tab
       ∙ ap (λ (x : ℕ). getD (zeros 10 ++ date) (x + i) 0) (sym (length-zeros 10)) ∙ getD-append-add (zeros 10) date i 0
 
   zero-word : (i : ℕ) → i < 9 → wordAt ne (11 + i) ≡ 0
-  zero-word i b = word-put ne (11 + i) 0 (omega arith) (entry-zero i (omega arith)) (ap (λ (x : ℕ). getD ne x 0) (omega arith) ∙ entry-zero (i + 1) (omega arith))
+  zero-word i b =
+      word-put ne (11 + i) 0 (omega arith) (entry-zero i (omega arith)) (ap (λ (x : ℕ). getD ne x 0) (omega arith) ∙ entry-zero (i + 1) (omega arith))
 
   module _ (s : ℕ) (hs : s < length (slotsOf ds)) (dead : live ((getD (a .slots) s noFile) .name) 0 ≡ false) (alive : live nm 0 ≡ true) where
     abbrev p : ℕ
@@ -225,7 +232,7 @@ module _ (M S : ℕ) (z : Shape M S) (ds : List ℕ) (d : Listing S ds) (img tab
           act = open-act M S z ds d img tab a r n hn 2 p ne l24;
           drive = open-drive M S z ds d img tab a r n hn 2 p ne l24 ∙ dr;
           slot = hs;
-          live = alive;
+          alive = alive;
           place = open-place M S z ds d img tab a r n hn 2 p ne l24;
           start = open-word M S z ds d img tab a r n hn 2 p ne l24 17 (adr S 0) (omega arith) (omega arith) (zero-word 2 (omega arith) ∙ sym (adr-zero S));
           size = open-word M S z ds d img tab a r n hn 2 p ne l24 21 0 (omega arith) (omega arith) (zero-word 6 (omega arith));

@@ -45,7 +45,8 @@ module _ (M S : ℕ) (z : Shape M S) (ds : List ℕ) (d : Listing S ds) (img tab
   old = getD (a .blocks) n closed
 
   -- a block that has the same slot open in the same way
-  pub alone1 : (b : Block) → opens b ≡ opens old → writes b ≡ writes old → (n′ : ℕ) → n′ < 8 → n′ ≢ n → 1 ≤ writes b → writes b ≢ opens (getD (a .blocks) n′ closed)
+  pub alone1 : (b : Block) → opens b ≡ opens old → writes b ≡ writes old → (n′ : ℕ) → n′ < 8 → n′ ≢ n → 1 ≤ writes b
+      → writes b ≢ opens (getD (a .blocks) n′ closed)
   alone1 b o w n′ h e k = λ q. r .alone n n′ (λ x. e (sym x)) hn h (omega arith) (sym w ∙ q)
 
   pub alone2 : (b : Block) → opens b ≡ opens old → (n′ : ℕ) → n′ < 8 → n′ ≢ n → 1 ≤ opens b → writes (getD (a .blocks) n′ closed) ≢ opens b
@@ -55,7 +56,8 @@ module _ (M S : ℕ) (z : Shape M S) (ds : List ℕ) (d : Listing S ds) (img tab
   pub nobody : (s : ℕ) (ub : List ℕ) → old ≡ writing s ub → (n′ : ℕ) → n′ < 8 → n′ ≢ n → opens (getD (a .blocks) n′ closed) ≢ suc s
   nobody s ub e n′ h ne q = r .alone n n′ (λ x. ne (sym x)) hn h (rw e (omega arith)) (ap writes e ∙ sym q)
 
-  pub on-block : (tab′ : List ℕ) (b : Block) → Turn tab tab′ n → opens b ≡ opens old → writes b ≡ writes old → Keeps S (slotsOf ds) tab′ n (a .slots) b
+  pub on-block : (tab′ : List ℕ) (b : Block) → Turn tab tab′ n → opens b ≡ opens old → writes b ≡ writes old
+      → Keeps S (slotsOf ds) tab′ n (a .slots) b
       → Agrees M S ds img tab′ (record { free = a .free; slots = a .slots; blocks = set (a .blocks) n b })
   on-block tab′ b t o w k = step-block M S z ds d img tab a r tab′ n b hn t k (alone1 b o w) (alone2 b o)
 
@@ -80,14 +82,16 @@ module _ (M S : ℕ) (z : Shape M S) (ds : List ℕ) (d : Listing S ds) (img tab
       quiet (puts tab (320 * n) (put 1 (one e) ∷ [])) (turned tab n (put 1 (one e) ∷ []) (omega (arith, length-one e)))
       (λ i h. puts-clear (put 1 (one e) ∷ []) tab (320 * n) i (omega (arith, length-one e)))
 
-  idle-keeps : (tab′ : List ℕ) (fs : List File) (b : Block) → opens b ≡ 0 → tb tab′ n 2 ≡ tb tab n 2 → tp tab′ n ≡ tp tab n → Keeps S (slotsOf ds) tab n (a .slots) b → Keeps S (slotsOf ds) tab′ n fs b
+  idle-keeps : (tab′ : List ℕ) (fs : List File) (b : Block) → opens b ≡ 0 → tb tab′ n 2 ≡ tb tab n 2 → tp tab′ n ≡ tp tab n
+      → Keeps S (slotsOf ds) tab n (a .slots) b → Keeps S (slotsOf ds) tab′ n fs b
   idle-keeps tab′ fs closed o e p k = e ∙ k
   idle-keeps tab′ fs (listing c) o e p k = record { act = e ∙ k .act; shown = k .shown; place = p ∙ k .place }
   idle-keeps tab′ fs (reading s j i) o e p k = absurd (omega arith)
   idle-keeps tab′ fs (writing s ub) o e p k = absurd (omega arith)
 
   -- an idle block after stores that leave its activity and its place, whatever the files
-  pub idle-kept : (tab′ : List ℕ) (fs : List File) → opens old ≡ 0 → tb tab′ n 2 ≡ tb tab n 2 → tp tab′ n ≡ tp tab n → Keeps S (slotsOf ds) tab′ n fs old
+  pub idle-kept : (tab′ : List ℕ) (fs : List File) → opens old ≡ 0 → tb tab′ n 2 ≡ tb tab n 2 → tp tab′ n ≡ tp tab n
+      → Keeps S (slotsOf ds) tab′ n fs old
   idle-kept tab′ fs o e p = idle-keeps tab′ fs old o e p (r .keeps n hn)
 
   -- an idle block's activity and place are kept: presets, what is copied into it

@@ -14,7 +14,7 @@ use Rattle.rules.specs.Stores.{Put, put, puts}
 use Rattle.rules.specs.Image.{index, isData}
 use Rattle.rules.specs.Directory.{slotsOf}
 use Rattle.rules.specs.Outcome.{refuse, done}
-use Rattle.rules.specs.Transfer.{nextToRead, loadPuts, load}
+use Rattle.rules.specs.Transfer.{nextToRead, loadPuts, load, reading as readByte}
 use Rattle.rules.specs.Files.{rewind}
 use Rattle.laws.specs.Bytes.{word-put, word-same, part-at, length-part, length-one}
 use Rattle.chains.specs.Tally.{tally}
@@ -65,7 +65,7 @@ module _ (M S : ℕ) (z : Shape M S) (ds : List ℕ) (d : Listing S ds) (img tab
       act = same 2 (omega arith) ∙ w .act;
       drive = same 3 (omega arith) ∙ w .drive;
       slot = w .slot;
-      live = w .live;
+      alive = w .alive;
       place = tp-same tab (puts tab (320 * n) gave) n (λ k h. same k (omega arith)) ∙ w .place;
       start = s2 17 (omega arith) (omega arith) ∙ w .start;
       loaded = w .loaded;
@@ -78,7 +78,8 @@ module _ (M S : ℕ) (z : Shape M S) (ds : List ℕ) (d : Listing S ds) (img tab
     }
 
     gave-step : Agrees M S ds img (puts tab (320 * n) gave) (onBlock a n (reading s j ((i + 1) % 256)))
-    gave-step = on-block M S z ds d img tab a r n hn (puts tab (320 * n) gave) (reading s j ((i + 1) % 256)) (turned tab n gave (omega (arith, length-one ((i + 1) % 256)))) (ap opens (sym e)) (ap writes (sym e)) gave-now
+    gave-step =
+        on-block M S z ds d img tab a r n hn (puts tab (320 * n) gave) (reading s j ((i + 1) % 256)) (turned tab n gave (omega (arith, length-one ((i + 1) % 256)))) (ap opens (sym e)) (ap writes (sym e)) gave-now
 
     gave-byte : getD tab (320 * n + (64 + i)) 0 ≡ getD (getD (f .body) (j - 1) []) (i - 4) 0
     gave-byte = ap (λ (q : ℕ). tb tab n q) (omega (arith, wi)) ∙ w .buffer h (i - 4) (omega (arith, wi))
@@ -155,14 +156,14 @@ module _ (M S : ℕ) (z : Shape M S) (ds : List ℕ) (d : Listing S ds) (img tab
       act = lsame 2 (omega arith) ∙ w .act;
       drive = lsame 3 (omega arith) ∙ w .drive;
       slot = w .slot;
-      live = w .live;
+      alive = w .alive;
       place = tp-same tab tab′ n (λ k h. lsame′ k (omega arith)) ∙ w .place;
       start = t2-same tab tab′ n 17 (lsame 17 (omega arith)) (lsame 18 (omega arith)) ∙ w .start;
       loaded = omega (arith, jl);
       before = λ q. absurd (omega arith);
       after = λ q t. omega (arith, pos, adr-pos M S z k k-pos k-high);
       link = λ q. word-same img tab′ (256 * k) (320 * n + 64) (buf 0 (omega arith) ∙ ap (λ (p : ℕ). getD img p 0) (omega arith)) (ap (λ (p : ℕ). getD tab′ p 0) (omega arith) ∙ buf 1 (omega arith))
-          ∙ seg-at S img l j jl ((h .chain (w .live)) .seg);
+          ∙ seg-at S img l j jl ((h .chain (w .alive)) .seg);
       at = puts-at ps tab (320 * n) 3 0 34 (omega arith) (omega arith) (omega arith) (in-table 34 (omega arith)) tt;
       within = λ q. omega arith;
       buffer = λ q c b. ap (λ (p : ℕ). getD tab′ p 0) (omega arith) ∙ buf (4 + c) (omega arith) ∙ data252 c b
@@ -171,7 +172,8 @@ module _ (M S : ℕ) (z : Shape M S) (ds : List ℕ) (d : Listing S ds) (img tab
 
     load-step : Agrees M S ds img tab′ (onBlock a n (reading s (suc j) 5))
     unfolding two one
-    load-step = on-block M S z ds d img tab a r n hn tab′ (reading s (suc j) 5) (turned tab n ps (omega (arith, l2, l256))) (ap opens (sym e)) (ap writes (sym e)) load-now
+    load-step =
+        on-block M S z ds d img tab a r n hn tab′ (reading s (suc j) 5) (turned tab n ps (omega (arith, l2, l256))) (ap opens (sym e)) (ap writes (sym e)) load-now
 
     load-byte : getD img (256 * k + 4) 0 ≡ getD (getD (f .body) j []) 0 0
     load-byte = ap (λ (p : ℕ). getD img p 0) (omega arith) ∙ data252 0 (omega arith)
@@ -197,8 +199,8 @@ module _ (M S : ℕ) (z : Shape M S) (ds : List ℕ) (d : Listing S ds) (img tab
           let p : adr S (getD l j 0) ≡ 0 = ap (adr S) (List·getD-eq-default l 0 (omega arith)) ∙ adr-zero S in
           rw (eq-eqb (adr S (getD l j 0)) 0 p, le-ltb j (length l) (omega arith)) (refl, omega arith)
 
-  pub read-meets : (q : Request) → Meets M S ds img tab n (Rattle.rules.specs.Transfer.reading img tab M S (320 * n)) (transferred M S a n q (reading s j i))
-  unfolding Rattle.rules.specs.Transfer.reading
+  pub read-meets : (q : Request) → Meets M S ds img tab n (readByte img tab M S (320 * n)) (transferred M S a n q (reading s j i))
+  unfolding readByte
   read-meets q =
       meets-pick M S ds img tab n (eqb (tb tab n 34) 0) (eqb i 0) _ _ _ _ (ap (λ (x : ℕ). eqb x 0) (w .at))
       (λ h. rw wanted load-meets)
@@ -221,7 +223,7 @@ module _ (M S : ℕ) (z : Shape M S) (ds : List ℕ) (d : Listing S ds) (img tab
     act = rsame 2 (omega arith) (omega arith) (omega arith) (omega arith) ∙ w .act;
     drive = rsame 3 (omega arith) (omega arith) (omega arith) (omega arith) ∙ w .drive;
     slot = w .slot;
-    live = w .live;
+    alive = w .alive;
     place = tp-same tab (puts tab (320 * n) rs) n (λ k h. rsame k (omega arith) (omega arith) (omega arith) (omega arith)) ∙ w .place;
     start = t2-same tab (puts tab (320 * n) rs) n 17 (rsame 17 (omega arith) (omega arith) (omega arith) (omega arith)) (rsame 18 (omega arith) (omega arith) (omega arith) (omega arith)) ∙ w .start;
     loaded = omega arith;

@@ -18,7 +18,7 @@ use Rattle.chains.specs.Addresses.{Sized, adr, room-for}
 use Rattle.chains.specs.Chain.{first, lastOf, Seg, Chain, contents, seg-same, contents-same, chain-same}
 use Rattle.chains.specs.Directory.{Listing}
 use Rattle.chains.specs.Frame.{Frame}
-use Rattle.demands.specs.Ledger.{File, noFile, Block, closed, listing, reading, writing, Ledger}
+use Rattle.demands.specs.Ledger.{File, noFile, Block, closed, listing, reading, writing, Ledger, secsOf}
 
 -- byte i of block n, and the number of two bytes there
 abbrev pub tb : List ℕ → ℕ → ℕ → ℕ
@@ -30,9 +30,6 @@ t2 tab n i = wordAt tab (320 * n + i)
 -- its place
 abbrev pub tp : List ℕ → ℕ → List ℕ
 tp tab n = part tab (320 * n + 47) 3
-
-abbrev pub secsOf : File → List ℕ
-secsOf f = f .secs
 
 -- one more than the slot that is open, or written; 0 for none
 abbrev pub opens : Block → ℕ
@@ -63,7 +60,7 @@ pub record Reading (S : ℕ) (os tab : List ℕ) (n : ℕ) (f : File) (s j i : �
   pub act : tb tab n 2 ≡ 1
   pub drive : tb tab n 3 ≡ 0
   pub slot : s < length os
-  pub live : Rattle.rules.specs.Directory.live (f .name) 0 ≡ true
+  pub alive : live (f .name) 0 ≡ true
   pub place : tp tab n ≡ placeOf (getD os s 0)
   pub start : t2 tab n 17 ≡ adr S (getD (f .secs) 0 0)
   pub loaded : j ≤ length (f .secs)
@@ -78,7 +75,7 @@ pub record Writing (S : ℕ) (os tab : List ℕ) (n : ℕ) (f : File) (s : ℕ) 
   pub act : tb tab n 2 ≡ 2
   pub drive : tb tab n 3 ≡ 0
   pub slot : s < length os
-  pub live : Rattle.rules.specs.Directory.live (f .name) 0 ≡ true
+  pub alive : live (f .name) 0 ≡ true
   pub place : tp tab n ≡ placeOf (getD os s 0)
   pub start : t2 tab n 17 ≡ adr S (first (f .secs) 0)
   pub size : t2 tab n 21 ≡ length (f .secs)
@@ -115,7 +112,8 @@ pub record Agrees (M S : ℕ) (ds img tab : List ℕ) (a : Ledger) : Type 0 wher
   pub free : Chain S img 541 (a .free)
   pub holds : (s : ℕ) → s < length (slotsOf ds) → Holds S img (getD (slotsOf ds) s 0) (getD (a .slots) s noFile)
   pub keeps : (n : ℕ) → n < 8 → Keeps S (slotsOf ds) tab n (a .slots) (getD (a .blocks) n closed)
-  pub alone : (n n′ : ℕ) → n ≢ n′ → n < 8 → n′ < 8 → 1 ≤ writes (getD (a .blocks) n closed) → writes (getD (a .blocks) n closed) ≢ opens (getD (a .blocks) n′ closed)
+  pub alone : (n n′ : ℕ) → n ≢ n′ → n < 8 → n′ < 8 → 1 ≤ writes (getD (a .blocks) n closed)
+      → writes (getD (a .blocks) n closed) ≢ opens (getD (a .blocks) n′ closed)
   pub once : Once S ((M + 1) * S) (a .free ++ flat secsOf (a .slots))
 
 -- ---- frames of the table
@@ -140,13 +138,14 @@ rest-place tab tab′ n r = tp-same tab tab′ n (λ i h. r i (omega (arith, h))
 pub keeps-same : (S : ℕ) (os tab tab′ : List ℕ) (n : ℕ) (fs fs′ : List File) (b : Block) → Rest tab tab′ n
     → (1 ≤ opens b → (s : ℕ) → suc s ≡ opens b → getD fs′ s noFile ≡ getD fs s noFile) → Keeps S os tab n fs b → Keeps S os tab′ n fs′ b
 keeps-same S os tab tab′ n fs fs′ closed r e k = r 2 (omega arith) ∙ k
-keeps-same S os tab tab′ n fs fs′ (listing p) r e k = record { act = r 2 (omega arith) ∙ k .act; shown = k .shown; place = rest-place tab tab′ n r ∙ k .place }
+keeps-same S os tab tab′ n fs fs′ (listing p) r e k =
+    record { act = r 2 (omega arith) ∙ k .act; shown = k .shown; place = rest-place tab tab′ n r ∙ k .place }
 keeps-same S os tab tab′ n fs fs′ (reading s j i) r e k =
     let t : Reading S os tab′ n (getD fs s noFile) s j i = record {
       act = r 2 (omega arith) ∙ k .act;
       drive = r 3 (omega arith) ∙ k .drive;
       slot = k .slot;
-      live = k .live;
+      alive = k .alive;
       place = rest-place tab tab′ n r ∙ k .place;
       start = rest2 tab tab′ n 17 (omega arith) r ∙ k .start;
       loaded = k .loaded;
@@ -163,7 +162,7 @@ keeps-same S os tab tab′ n fs fs′ (writing s ub) r e k =
       act = r 2 (omega arith) ∙ k .act;
       drive = r 3 (omega arith) ∙ k .drive;
       slot = k .slot;
-      live = k .live;
+      alive = k .alive;
       place = rest-place tab tab′ n r ∙ k .place;
       start = rest2 tab tab′ n 17 (omega arith) r ∙ k .start;
       size = rest2 tab tab′ n 21 (omega arith) r ∙ k .size;
@@ -239,7 +238,8 @@ module _ (M S : ℕ) (z : Shape M S) (ds : List ℕ) (d : Listing S ds) (img tab
       is : (x : ℕ) → x ≡ n → getD (set (a .blocks) n b) x closed ≡ b
       is x e = ap (λ (c : ℕ). getD (set (a .blocks) n b) c closed) e ∙ getD-set-same (a .blocks) n b closed (omega (arith, r .nb))
 
-      go : Dec (x ≡ n) → Dec (y ≡ n) → 1 ≤ writes (getD (set (a .blocks) n b) x closed) → writes (getD (set (a .blocks) n b) x closed) ≢ opens (getD (set (a .blocks) n b) y closed)
+      go : Dec (x ≡ n) → Dec (y ≡ n) → 1 ≤ writes (getD (set (a .blocks) n b) x closed)
+          → writes (getD (set (a .blocks) n b) x closed) ≢ opens (getD (set (a .blocks) n b) y closed)
       go (yes e) (yes e′) = absurd (ne (e ∙ sym e′))
       go (yes e) (no e′) = rw (is x e, getD-set-other (a .blocks) n y b closed e′) (p y hy e′)
       go (no e) (yes e′) = rw (is y e′, getD-set-other (a .blocks) n x b closed e) (λ w z. q x hx e (omega arith) z)
@@ -264,7 +264,8 @@ module _ (M S : ℕ) (z : Shape M S) (ds : List ℕ) (d : Listing S ds) (img tab
         once = r .once;
       }
 
-  pub step : (img′ tab′ ks fr : List ℕ) (n s : ℕ) (f : File) (b : Block) → n < 8 → s < length (slotsOf ds) → Frame S ds img img′ ks s → Turn tab tab′ n
+  pub step : (img′ tab′ ks fr : List ℕ) (n s : ℕ) (f : File) (b : Block) → n < 8 → s < length (slotsOf ds) → Frame S ds img img′ ks s
+      → Turn tab tab′ n
       → Chain S img′ 541 fr → Holds S img′ (getD (slotsOf ds) s 0) f → Keeps S (slotsOf ds) tab′ n (set (a .slots) s f) b
       → ((x : ℕ) → 1 ≤ tally x ks → 1 ≤ tally x (a .free) + tally x (secsOf (getD (a .slots) s noFile)))
       → ((x : ℕ) → tally x fr + tally x (secsOf f) ≡ tally x (a .free) + tally x (secsOf (getD (a .slots) s noFile)))

@@ -17,7 +17,7 @@ use Rattle.rules.specs.Directory.{slotsOf, live, named, placeOf}
 use Rattle.rules.specs.Outcome.{refuse, done, onSlot, onNone}
 use Rattle.rules.specs.Block.{inUse}
 use Rattle.rules.specs.Transfer.{mark}
-use Rattle.rules.specs.Files.{writeProtected, deleteProtected, hangStores, gone, remove, delete}
+use Rattle.rules.specs.Files.{writeProtected, deleteProtected, hangStores, gone, remove, delete, rename}
 use Rattle.laws.specs.Bytes.{word-put, part-at, part-is, part-same, length-part, length-one}
 use Rattle.chains.specs.Tally.{tally-append, apart}
 use Rattle.laws.specs.Addresses.{Shape}
@@ -27,9 +27,10 @@ use Rattle.chains.specs.Directory.{Listing}
 use Rattle.chains.specs.Stored.{stored-off, stored-at, puts-clear}
 use Rattle.chains.specs.Frame.{Frame, framed, Lies, in-record, in-sector, in-slot, of-nothing}
 use Rattle.demands.specs.Ledger.{File, noFile, Block, closed, Ledger, denied, granted, Sought, nowhere, slot, onSought, fileNamed, busy, attributes, onFile, withMark, withName, deleted, renamed}
+use Rattle.demands.specs.Diskette.{request}
 use Rattle.demands.specs.Relation.{t2, opens, Holds, Keeps, Agrees, tp-same, Turn, step, long}
 use Rattle.demands.specs.Quiet.{turned, shut-writes, idle-kept}
-use Rattle.demands.specs.Meets.{request, Meets, meets-unless, meets-when}
+use Rattle.demands.specs.Meets.{Meets, meets-unless, meets-when}
 use Rattle.chains.specs.Walk.{AllData}
 use Rattle.demands.specs.Sectors.{free-data, secs-data, secs-once, few, fits, sector-small, sector-data, last-data, index-last, last-small, linked-is}
 use Rattle.demands.specs.Searches.{legal-part, find-is, in-use-is, lookedUp, seek-found, named-hit, not-busy, not-open}
@@ -71,7 +72,8 @@ module _ (M S : ℕ) (z : Shape M S) (ds : List ℕ) (d : Listing S ds) (img tab
     abbrev img′ : List ℕ
     img′ = stored img hangS
 
-    link-off : (p : ℕ) → (1 ≤ length fr → 256 * lastOf fr 0 ≤ p → p < 256 * lastOf fr 0 + 2 → ⊥) → 256 * lastOf fr 0 + 0 ≤ p → p < 256 * lastOf fr 0 + 0 + length lk → ⊥
+    link-off : (p : ℕ) → (1 ≤ length fr → 256 * lastOf fr 0 ≤ p → p < 256 * lastOf fr 0 + 2 → ⊥) → 256 * lastOf fr 0 + 0 ≤ p
+        → p < 256 * lastOf fr 0 + 0 + length lk → ⊥
     unfolding two
     link-off p g u v = go (ℕ-discrete (length fr) 0)
       where
@@ -79,7 +81,8 @@ module _ (M S : ℕ) (z : Shape M S) (ds : List ℕ) (d : Listing S ds) (img tab
         go (yes q) = let t : length lk ≡ 0 = rw (eq-eqb (length fr) 0 q) refl in omega (arith, t)
         go (no q) = let t : length lk ≡ 2 = rw (ne-eqb (length fr) 0 q) refl in g (omega arith) (omega arith) (omega (arith, t))
 
-    keep : (p : ℕ) → (1 ≤ length fr → 256 * lastOf fr 0 ≤ p → p < 256 * lastOf fr 0 + 2 → ⊥) → (541 ≤ p → p < 547 → ⊥) → p ≢ o → getD img′ p 0 ≡ getD img p 0
+    keep : (p : ℕ) → (1 ≤ length fr → 256 * lastOf fr 0 ≤ p → p < 256 * lastOf fr 0 + 2 → ⊥) → (541 ≤ p → p < 547 → ⊥) → p ≢ o
+        → getD img′ p 0 ≡ getD img p 0
     unfolding six one
     keep p a b c = stored-off hangS img p (link-off p a, ((λ u v. b (omega arith) (omega arith)), ((λ u v. omega (arith, c)), tt)))
 
@@ -111,7 +114,8 @@ module _ (M S : ℕ) (z : Shape M S) (ds : List ℕ) (d : Listing S ds) (img tab
     unfolding six two one
     link-is q =
         let t : lk ≡ two (adr S (first l 0)) = rw (ne-eqb (length fr) 0 (omega arith)) refl in
-        let b : 256 * lastOf fr 0 + 256 ≤ length img = fits M S z ds d img tab a r (lastOf fr 0) (last-data M S z fr (free-data M S z ds d img tab a r) q .1) in
+        let b : 256 * lastOf fr 0 + 256 ≤ length img =
+        fits M S z ds d img tab a r (lastOf fr 0) (last-data M S z fr (free-data M S z ds d img tab a r) q .1) in
         let t2 : length lk ≡ 2 = ap length t in
         word-put img′ (256 * lastOf fr 0) (adr S (first l 0)) (sector-small M S z (first l 0) (l-data (first l 0) (first-in l 0 some)))
         (stored-at hangS img 0 0 (256 * lastOf fr 0) (omega arith) (omega arith) (omega arith) (omega arith) (omega (arith, ql q, z .sectors, ohigh)) ∙ ap (λ (x : List ℕ). getD x 0 0) t)
@@ -135,7 +139,8 @@ module _ (M S : ℕ) (z : Shape M S) (ds : List ℕ) (d : Listing S ds) (img tab
         at : (i p : ℕ) → i < 6 → 541 + i ≡ p → getD img′ p 0 ≡ getD (six (adr S (first (fr ++ l) 0)) (adr S (lastOf l 0)) (length fr + length l)) i 0
         at i p b q = stored-at hangS img 1 i p (omega arith) (omega arith) (omega arith) (omega (arith, long1)) (omega (arith, olow))
 
-    hang-step : (n : ℕ) (tab′ : List ℕ) (b : Block) → n < 8 → Turn tab tab′ n → opens b ≡ 0 → Keeps S (slotsOf ds) tab′ n (set (a .slots) s (withMark f)) b
+    hang-step : (n : ℕ) (tab′ : List ℕ) (b : Block) → n < 8 → Turn tab tab′ n → opens b ≡ 0
+        → Keeps S (slotsOf ds) tab′ n (set (a .slots) s (withMark f)) b
         → ((n′ : ℕ) → n′ < 8 → n′ ≢ n → opens (getD (a .blocks) n′ closed) ≢ suc s)
         → Agrees M S ds img′ tab′ (onFile a (fr ++ l) s (withMark f) n b)
     unfolding six one
@@ -152,7 +157,8 @@ module _ (M S : ℕ) (z : Shape M S) (ds : List ℕ) (d : Listing S ds) (img tab
       where
         go : (fr : List ℕ) → AllData M S fr → pick (eqb (length fr) 0) true (isData M S (adr S (lastOf fr 0))) ≡ true
         go [] g = refl
-        go (x ∷ fr) g = rw (ne-eqb (suc (length fr)) 0 (omega arith)) (sector-data M S z (lastOf (x ∷ fr) 0) (last-data M S z (x ∷ fr) g (omega arith)))
+        go (x ∷ fr) g =
+            rw (ne-eqb (suc (length fr)) 0 (omega arith)) (sector-data M S z (lastOf (x ∷ fr) 0) (last-data M S z (x ∷ fr) g (omega arith)))
 
     head-eq : pick (eqb (length fr) 0) (adr S (first l 0)) (adr S (first fr 0)) ≡ adr S (first (fr ++ l) 0)
     head-eq = go fr
@@ -202,7 +208,8 @@ module _ (M S : ℕ) (z : Shape M S) (ds : List ℕ) (d : Listing S ds) (img tab
     unfolding remove gone mark
     remove-meets = go (ℕ-discrete (length l) 0)
       where
-        go : Dec (length l ≡ 0) → Meets M S ds img tab n (remove img M S o) (granted 0 (onFile a (fr ++ l) s (withMark f) n (getD (a .blocks) n closed)))
+        go : Dec (length l ≡ 0)
+            → Meets M S ds img tab n (remove img M S o) (granted 0 (onFile a (fr ++ l) s (withMark f) n (getD (a .blocks) n closed)))
         go (yes p) =
             let q : fr ++ l ≡ fr = ap (λ (x : List ℕ). fr ++ x) (empty l p) ∙ append-nil fr in
             rw (e17, eq-eqb (length l) 0 p, q)
@@ -298,15 +305,15 @@ module _ (M S : ℕ) (z : Shape M S) (ds : List ℕ) (d : Listing S ds) (img tab
       go (slot s) e =
           let q = seek-found (λ x. named x nm 0) (a .slots) s e in
           let hs : s < length (slotsOf ds) = omega (arith, q .low, r .ns) in
-          let alive = named-hit ((getD (a .slots) s noFile) .name) nm (q .hit) .live in
+          let alive = named-hit ((getD (a .slots) s noFile) .name) nm (q .hit) .alive in
           let at = attributes-is s hs in
           meets-when M S ds img tab n (inUse true tab (placeOf (getD (slotsOf ds) s 0))) (busy true s (a .blocks) 8) 2 _ _ (in-use-is M S z ds d img tab a r true s hs) (omega arith)
           (λ h2. meets-when M S ds img tab n _ (deleteProtected (attributes a s)) 12 _ _ (ap deleteProtected at) (omega arith)
           (λ h12. meets-when M S ds img tab n _ (writeProtected (attributes a s)) 11 _ _ (ap writeProtected at) (omega arith)
           (λ h11. remove-meets M S z ds d img tab a r s hs alive n hn oz h2)))
 
-  pub rename-meets : (b : ℕ) → Meets M S ds img tab n (Rattle.rules.specs.Files.rename img tab S (320 * n)) (renamed M S a n (request tab n b))
-  unfolding Rattle.rules.specs.Files.rename renamed
+  pub rename-meets : (b : ℕ) → Meets M S ds img tab n (rename img tab S (320 * n)) (renamed M S a n (request tab n b))
+  unfolding rename renamed
   rename-meets b =
       meets-unless M S ds img tab n (legal tab (320 * n + 4)) (legal nm 0) 21 _ _ (legal-part tab (320 * n + 4)) (omega arith)
       (λ h. meets-unless M S ds img tab n (legal tab (320 * n + 53)) (legal nn 0) 21 _ _ (legal-part tab (320 * n + 53)) (omega arith)
@@ -324,12 +331,13 @@ module _ (M S : ℕ) (z : Shape M S) (ds : List ℕ) (d : Listing S ds) (img tab
       go v (slot s) e y =
           let q = seek-found (λ x. named x nm 0) (a .slots) s e in
           let hs : s < length (slotsOf ds) = omega (arith, q .low, r .ns) in
-          let alive = named-hit ((getD (a .slots) s noFile) .name) nm (q .hit) .live in
+          let alive = named-hit ((getD (a .slots) s noFile) .name) nm (q .hit) .alive in
           meets-when M S ds img tab n (inUse true tab (placeOf (getD (slotsOf ds) s 0))) (busy true s (a .blocks) 8) 2 _ _ (in-use-is M S z ds d img tab a r true s hs) (omega arith)
           (λ h2. meets-when M S ds img tab n _ (writeProtected (attributes a s)) 11 _ _ (ap writeProtected (attributes-is s hs)) (omega arith)
           (λ h11. last s hs alive h2 v y))
         where
-          last : (s : ℕ) (hs : s < length (slotsOf ds)) → live ((getD (a .slots) s noFile) .name) 0 ≡ true → busy true s (a .blocks) 8 ≡ false → live nn 0 ≡ true → (y : Sought)
+          last : (s : ℕ) (hs : s < length (slotsOf ds)) → live ((getD (a .slots) s noFile) .name) 0 ≡ true → busy true s (a .blocks) 8 ≡ false
+              → live nn 0 ≡ true → (y : Sought)
               → Meets M S ds img tab n
               (onNone (lookedUp (slotsOf ds) y) 5 3 (done 0 (store (getD (slotsOf ds) s 0 / 256) (getD (slotsOf ds) s 0 % 256) nn ∷ []) (put 4 nn ∷ [])))
               (onSought y (granted 0 (onFile a (a .free) s (withName (getD (a .slots) s noFile) nn) n (getD (a .blocks) n closed))) (λ t. denied 3))

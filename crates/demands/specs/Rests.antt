@@ -10,15 +10,16 @@ use lib.ListN.{length}
 use lib.Dec.{eqb}
 use borrow.Author.Tests.{eq-eqb, ne-eqb, eqb-true, le-ltb}
 use Rattle.rules.specs.Bytes.{pick, same}
-use Rattle.rules.specs.Directory.{live}
+use Rattle.rules.specs.Directory.{live, named}
 use Rattle.laws.specs.Bytes.{same-refl, same-eq, part-all}
 use Rattle.laws.specs.Tests.{both}
 use Rattle.laws.specs.Addresses.{Shape}
 use Rattle.chains.specs.Addresses.{absurd-bool}
 use Rattle.chains.specs.Directory.{Listing}
 use Rattle.demands.specs.Ledger.{File, Ledger, Request, Fate, denied, granted, reply, after, slot, fileNamed, block, file, withName, fate}
+use Rattle.demands.specs.Diskette.{request}
 use Rattle.demands.specs.Relation.{writes}
-use Rattle.demands.specs.Meets.{request, Sure}
+use Rattle.demands.specs.Meets.{Sure}
 use Rattle.demands.specs.Searches.{seek-found, named-hit}
 use Rattle.demands.specs.Opens.{legal-live}
 use Rattle.demands.specs.Tidy.{nameOf, Tidy, found-there}
@@ -51,7 +52,7 @@ module _ (a : Ledger) (t : Tidy (a .slots)) (s : ℕ) (f : File) (r : Rests a s 
 
   found-back : (nm : List ℕ) → fileNamed nm (a .slots) ≡ slot s → nm ≡ f .name
   found-back nm e =
-      let q = seek-found (λ x. Rattle.rules.specs.Directory.named x nm 0) (a .slots) s e in
+      let q = seek-found (λ x. named x nm 0) (a .slots) s e in
       sym (named-hit (nameOf (a .slots) s) nm (q .hit) .same) ∙ part-all (nameOf (a .slots) s) 11 (t .long s (r .low)) ∙ name-is
 
   module _ (n : ℕ) (q : Request) (hn : n < length (a .blocks)) (h8 : n < 8) (a′ : Ledger) (c : Change a n q a′) (spared : q .code ≡ 12 → q .name ≢ f .name) where
@@ -105,7 +106,8 @@ module _ (M S : ℕ) (z : Shape M S) (ds : List ℕ) (d : Listing S ds) where
     e = record { n = n; ask = request (x .tab) n b; ans = answers flex x n b; back = gave flex x n b }
 
     -- what the entry says of the file
-    rest-one : (s : ℕ) (f : File) → Rests a s f → deletes (f .name) e ≡ false → Rests (then M S a e) s (titled f (renames (f .name) e) ((request (x .tab) n b) .rename))
+    rest-one : (s : ℕ) (f : File) → Rests a s f → deletes (f .name) e ≡ false
+        → Rests (then M S a e) s (titled f (renames (f .name) e) ((request (x .tab) n b) .rename))
     unfolding deletes renames
     rest-one s f r k = go (ℕ-discrete (answers flex x n b) 0) (decLt n 8)
       where
@@ -119,7 +121,8 @@ module _ (M S : ℕ) (z : Shape M S) (ds : List ℕ) (d : Listing S ds) where
             rw (eq-eqb (answers flex x n b) 0 q)
             (by (fate M S a n (request (x .tab) n b)) (changes M S a n (request (x .tab) n b)) (st .sure) (st .ans) (rw (eq-eqb (answers flex x n b) 0 q) at k))
           where
-            by : (φ : Fate) → Changes a n (request (x .tab) n b) φ → Sure φ → answers flex x n b ≡ reply φ → pick (eqb ((request (x .tab) n b) .code) 12) (same ((request (x .tab) n b) .name) (f .name)) false ≡ false
+            by : (φ : Fate) → Changes a n (request (x .tab) n b) φ → Sure φ → answers flex x n b ≡ reply φ
+                → pick (eqb ((request (x .tab) n b) .code) 12) (same ((request (x .tab) n b) .name) (f .name)) false ≡ false
                 → Rests (after a φ) s (titled f (pick (eqb ((request (x .tab) n b) .code) 13) (same ((request (x .tab) n b) .name) (f .name)) false) ((request (x .tab) n b) .rename))
             by (denied v) c su an k = absurd (su (sym an ∙ q))
             by (granted v a′) c su an k =
@@ -160,7 +163,8 @@ module _ (M S : ℕ) (z : Shape M S) (ds : List ℕ) (d : Listing S ds) where
       let y = unnamed-survives nm es (v .2) in
       ((v .0, subst (λ (k : List ℕ). Survives k es) (sym q) (y .0)), ap (λ (k : List ℕ). nameThen k es) q ∙ y .1)
 
-  pub rests-same : (cs : List Call) (x : Machine) (a : Ledger) → Fine M S ds x a → (s : ℕ) (f : File) → Rests a s f → Unnamed (f .name) (log flex x cs)
+  pub rests-same : (cs : List Call) (x : Machine) (a : Ledger) → Fine M S ds x a → (s : ℕ) (f : File) → Rests a s f
+      → Unnamed (f .name) (log flex x cs)
       → Rests (history M S a (log flex x cs)) s f
   rests-same cs x a g s f r v =
       let y = unnamed-survives (f .name) (log flex x cs) v in

@@ -13,35 +13,37 @@ use Rattle.rules.specs.Stores.{stored, puts}
 use Rattle.rules.specs.Outcome.{Effect, effect, answer, given, onImage, onBlock}
 use Rattle.rules.specs.Image.{lastTrack, perTrack}
 use Rattle.rules.specs.Directory.{directory}
-use Rattle.rules.specs.Block.{blockAt}
+use Rattle.rules.specs.Block.{blockAt, extension, preset}
 use Rattle.rules.specs.Census.{Survey, survey, census}
 use Rattle.laws.specs.Bytes.{length-zeros, zeros-at, length-part}
 use Rattle.laws.specs.Effects.{call-wrong, preset-quiet, extension-quiet}
 use Rattle.laws.specs.Surveys.{Sane, census-is}
-use Rattle.laws.specs.Addresses.{Shape}
+use Rattle.laws.specs.Addresses.{Shape, Shaped}
 use Rattle.chains.specs.Addresses.{Sized}
 use Rattle.chains.specs.Directory.{Listing}
 use Rattle.demands.specs.Ledger.{Ledger, Fate, denied, granted, reply, gives, after, fate}
 use Rattle.demands.specs.Relation.{Agrees}
-use Rattle.demands.specs.Meets.{request, Sure}
+use Rattle.demands.specs.Meets.{Sure}
 use Rattle.demands.specs.Calls.{call-met, preset-still, extension-still}
 use Rattle.demands.specs.Tidy.{Tidy}
 use Rattle.demands.specs.Changes.{Changes, changes, tidy-change, own-live}
-use Rattle.demands.specs.Survey.{ledgerOf, start-listing, start-agrees, start-tidy}
+use Rattle.demands.specs.Diskette.{ledgerOf, request}
+use Rattle.demands.specs.Survey.{start-listing, start-agrees, start-tidy}
 use Rattle.demands.specs.Service.{flex, Call, setting, extending, asking, Machine, Entry, answers, gave, next, entry, run, log}
 use Rattle.demands.specs.History.{then, history, answerOf, byteOf, Told}
 use Rattle.demands.specs.Demands.{Start, surveyAnswer, dataSectors}
+use Rattle.rules.specs.Call.{call}
 
 -- presets and extensions store nothing into the image
 nothing-stored : (img : List ℕ) (e : Effect) → length (onImage e) ≤ 0 → stored img (onImage e) ≡ img
 nothing-stored img (effect a b [] ps) h = refl
 nothing-stored img (effect a b (s ∷ ss) ps) h = absurd (omega arith)
 
-preset-image : (img tab : List ℕ) (n i v : ℕ) → stored img (onImage (Rattle.rules.specs.Block.preset tab n i v)) ≡ img
-preset-image img tab n i v = nothing-stored img (Rattle.rules.specs.Block.preset tab n i v) (preset-quiet img tab n i v .0 .few)
+preset-image : (img tab : List ℕ) (n i v : ℕ) → stored img (onImage (preset tab n i v)) ≡ img
+preset-image img tab n i v = nothing-stored img (preset tab n i v) (preset-quiet img tab n i v .0 .few)
 
-extension-image : (img tab : List ℕ) (n c : ℕ) → stored img (onImage (Rattle.rules.specs.Block.extension tab n c)) ≡ img
-extension-image img tab n c = nothing-stored img (Rattle.rules.specs.Block.extension tab n c) (extension-quiet img tab n c .0 .few)
+extension-image : (img tab : List ℕ) (n c : ℕ) → stored img (onImage (extension tab n c)) ≡ img
+extension-image img tab n c = nothing-stored img (extension tab n c) (extension-quiet img tab n c .0 .few)
 
 -- machine and ledger agree, and the directory is tidy
 pub record Fine (M S : ℕ) (ds : List ℕ) (x : Machine) (a : Ledger) : Type 0 where
@@ -79,7 +81,7 @@ module _ (M S : ℕ) (z : Shape M S) (ds : List ℕ) (d : Listing S ds) where
     none-such : (n b : ℕ) → 8 ≤ n → (answers flex x n b ≡ 13) × (gave flex x n b ≡ 0) × Fine M S ds (next flex x (asking n b)) a
     unfolding next
     none-such n b h =
-        let e : Rattle.rules.specs.Call.call (x .img) (x .tab) n b ≡ effect 13 0 [] [] = call-wrong (x .img) (x .tab) n b (λ p q. omega arith) in (
+        let e : call (x .img) (x .tab) n b ≡ effect 13 0 [] [] = call-wrong (x .img) (x .tab) n b (λ p q. omega arith) in (
           ap answer e,
           ap given e,
           subst (λ (w : Effect). Fine M S ds (record { img = stored (x .img) (onImage w); tab = puts (x .tab) (blockAt n) (onBlock w) }) a) (sym e) (record { agrees = f .agrees; tidy = f .tidy }),
@@ -89,17 +91,19 @@ module _ (M S : ℕ) (z : Shape M S) (ds : List ℕ) (d : Listing S ds) where
     unfolding next
     set-step n i v = record { agrees = image-same (preset-still M S z ds d (x .img) (x .tab) a (f .agrees) n i v); tidy = f .tidy }
       where
-        image-same : Agrees M S ds (stored (x .img) (onImage (Rattle.rules.specs.Block.preset (x .tab) n i v))) (puts (x .tab) (320 * n) (onBlock (Rattle.rules.specs.Block.preset (x .tab) n i v))) a
-            → Agrees M S ds (x .img) (puts (x .tab) (320 * n) (onBlock (Rattle.rules.specs.Block.preset (x .tab) n i v))) a
-        image-same g = subst (λ (m : List ℕ). Agrees M S ds m (puts (x .tab) (320 * n) (onBlock (Rattle.rules.specs.Block.preset (x .tab) n i v))) a) (preset-image (x .img) (x .tab) n i v) g
+        image-same : Agrees M S ds (stored (x .img) (onImage (preset (x .tab) n i v))) (puts (x .tab) (320 * n) (onBlock (preset (x .tab) n i v))) a
+            → Agrees M S ds (x .img) (puts (x .tab) (320 * n) (onBlock (preset (x .tab) n i v))) a
+        image-same g =
+            subst (λ (m : List ℕ). Agrees M S ds m (puts (x .tab) (320 * n) (onBlock (preset (x .tab) n i v))) a) (preset-image (x .img) (x .tab) n i v) g
 
     pub extend-step : (n c : ℕ) → Fine M S ds (next flex x (extending n c)) a
     unfolding next
     extend-step n c = record { agrees = image-same (extension-still M S z ds d (x .img) (x .tab) a (f .agrees) n c); tidy = f .tidy }
       where
-        image-same : Agrees M S ds (stored (x .img) (onImage (Rattle.rules.specs.Block.extension (x .tab) n c))) (puts (x .tab) (320 * n) (onBlock (Rattle.rules.specs.Block.extension (x .tab) n c))) a
-            → Agrees M S ds (x .img) (puts (x .tab) (320 * n) (onBlock (Rattle.rules.specs.Block.extension (x .tab) n c))) a
-        image-same g = subst (λ (m : List ℕ). Agrees M S ds m (puts (x .tab) (320 * n) (onBlock (Rattle.rules.specs.Block.extension (x .tab) n c))) a) (extension-image (x .img) (x .tab) n c) g
+        image-same : Agrees M S ds (stored (x .img) (onImage (extension (x .tab) n c))) (puts (x .tab) (320 * n) (onBlock (extension (x .tab) n c))) a
+            → Agrees M S ds (x .img) (puts (x .tab) (320 * n) (onBlock (extension (x .tab) n c))) a
+        image-same g =
+            subst (λ (m : List ℕ). Agrees M S ds m (puts (x .tab) (320 * n) (onBlock (extension (x .tab) n c))) a) (extension-image (x .img) (x .tab) n c) g
 
     -- one call
     module _ (n b : ℕ) where
@@ -132,7 +136,8 @@ module _ (M S : ℕ) (z : Shape M S) (ds : List ℕ) (d : Listing S ds) where
               )
 
   -- THE HISTORY: after every list of calls
-  pub always : (cs : List Call) (x : Machine) (a : Ledger) → Fine M S ds x a → Fine M S ds (run flex x cs) (history M S a (log flex x cs)) × Told M S a (log flex x cs)
+  pub always : (cs : List Call) (x : Machine) (a : Ledger) → Fine M S ds x a
+      → Fine M S ds (run flex x cs) (history M S a (log flex x cs)) × Told M S a (log flex x cs)
   unfolding run log history entry
   always [] x a f = (f, tt)
   always (setting n i v ∷ cs) x a f = always cs (next flex x (setting n i v)) a (set-step x a f n i v)
@@ -154,7 +159,7 @@ module _ (x : Machine) (s : Start x) where
   abbrev S : ℕ
   S = perTrack (x .img)
 
-  surveyed : Sane (x .img) M S × Rattle.laws.specs.Addresses.Shaped (x .img)
+  surveyed : Sane (x .img) M S × Shaped (x .img)
   surveyed =
       let n = dataSectors (x .img) in
       let r = survey-answer (census (x .img) (zeros n) (zeros n)) 0 (s .accepted) in

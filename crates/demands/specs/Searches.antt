@@ -14,7 +14,6 @@ use Rattle.rules.specs.Directory.{slots, slotsOf, neverUsed, deleted, live, onS
 use Rattle.rules.specs.Block.{counts, uses, usedBelow, inUse}
 use Rattle.rules.specs.declared.Seen.{Seen}
 use Rattle.rules.specs.declared.Seen.the-variants.{Hit, Stop, Pass}
-use Rattle.rules.specs.declared.Found.{Found}
 use Rattle.rules.specs.declared.Lookup.{Lookup}
 use Rattle.rules.specs.declared.Lookup.the-variants.{At, Missing}
 use Rattle.laws.specs.Bytes.{part-at, part-same, part-all, length-part, same-eq}
@@ -23,6 +22,8 @@ use Rattle.chains.specs.Addresses.{absurd-bool}
 use Rattle.chains.specs.Directory.{Listing, directory-is, places-same}
 use Rattle.demands.specs.Ledger.{File, noFile, Block, closed, listing, reading, writing, Ledger, Sought, nowhere, slot, later, seek, fileNamed, vacantSlot, holdsOpen, busy}
 use Rattle.demands.specs.Relation.{opens, writes, Keeps, Agrees}
+use Rattle.rules.specs.declared.Found.the-variants.{Stopped}
+use Rattle.rules.specs.declared.Found.the-variants.{Slot}
 
 -- ---- bytes of a part
 
@@ -68,7 +69,7 @@ marked-dead (x ∷ nm) h = refl
 
 -- a hit of the name search is a live slot with the name
 pub record Named (x nm : List ℕ) : Type 0 where
-  pub live : Rattle.rules.specs.Directory.live x 0 ≡ true
+  pub alive : live x 0 ≡ true
   pub same : part x 0 11 ≡ nm
 
 hit-pass : Hit ≡ Pass → ⊥
@@ -85,7 +86,7 @@ named-hit x nm h = go (searchStops x 0) (live x 0) refl (same (part x 0 11) nm) 
     go true v e w f h = absurd (hit-stop (sym h))
     go false false e w f h = absurd (hit-pass (sym h))
     go false true e false f h = absurd (hit-pass (sym h))
-    go false true e true f h = record { live = e; same = same-eq (part x 0 11) nm f }
+    go false true e true f h = record { alive = e; same = same-eq (part x 0 11) nm f }
 
 pub vacant-hit : (x : List ℕ) → vacant x 0 ≡ Hit → live x 0 ≡ false
 unfolding vacant
@@ -116,7 +117,7 @@ scan-seek look cls (o ∷ os) (f ∷ fs) e h =
     rw (h 0 (omega arith)) (go (cls (f .name)) (scan-seek look cls os fs (omega arith) (λ i b. h (suc i) (omega arith))))
   where
     go : (u : Seen) → lookupOf (scan look os) ≡ lookedUp os (seek cls fs)
-        → lookupOf (onSeen u (Rattle.rules.specs.declared.Found.the-variants.Slot o) Rattle.rules.specs.declared.Found.the-variants.Stopped (scan look os)) ≡ lookedUp (o ∷ os) (onSeen u (slot 0) nowhere (later (seek cls fs)))
+        → lookupOf (onSeen u (Slot o) Stopped (scan look os)) ≡ lookedUp (o ∷ os) (onSeen u (slot 0) nowhere (later (seek cls fs)))
     go Hit ih = refl
     go Stop ih = refl
     go Pass ih = ih ∙ looked-later o os (seek cls fs)
@@ -137,11 +138,13 @@ unfolding seek
 seek-found cls [] s h = absurd (slot-not s h)
 seek-found cls (f ∷ fs) s h = go (cls (f .name)) refl (seek cls fs) refl h (λ t q. seek-found cls fs t q)
   where
-    go : (u : Seen) → cls (f .name) ≡ u → (x : Sought) → seek cls fs ≡ x → onSeen u (slot 0) nowhere (later x) ≡ slot s → ((t : ℕ) → seek cls fs ≡ slot t → Sat cls fs t) → Sat cls (f ∷ fs) s
+    go : (u : Seen) → cls (f .name) ≡ u → (x : Sought) → seek cls fs ≡ x → onSeen u (slot 0) nowhere (later x) ≡ slot s
+        → ((t : ℕ) → seek cls fs ≡ slot t → Sat cls fs t) → Sat cls (f ∷ fs) s
     go Hit e x y h ih = subst (λ (t : ℕ). Sat cls (f ∷ fs) t) (slot-same 0 s h) (record { low = omega arith; hit = e })
     go Stop e x y h ih = absurd (slot-not s h)
     go Pass e nowhere y h ih = absurd (slot-not s h)
-    go Pass e (slot t) y h ih = subst (λ (t : ℕ). Sat cls (f ∷ fs) t) (slot-same (suc t) s h) (let p = ih t y in record { low = omega (arith, p .low); hit = p .hit })
+    go Pass e (slot t) y h ih =
+        subst (λ (t : ℕ). Sat cls (f ∷ fs) t) (slot-same (suc t) s h) (let p = ih t y in record { low = omega (arith, p .low); hit = p .hit })
 
 -- ---- of a ledger that image and table agree with
 
@@ -179,7 +182,8 @@ module _ (M S : ℕ) (z : Shape M S) (ds : List ℕ) (d : Listing S ds) (img tab
   used-below readers s hs (suc n) h =
       rw (uses-is readers s hs n (getD (a .blocks) n closed) (r .keeps n (omega arith)), used-below readers s hs n (omega arith)) refl
 
-  pub in-use-is : (readers : Bool) (s : ℕ) → s < length (slotsOf ds) → inUse readers tab (placeOf (getD (slotsOf ds) s 0)) ≡ busy readers s (a .blocks) 8
+  pub in-use-is : (readers : Bool) (s : ℕ) → s < length (slotsOf ds)
+      → inUse readers tab (placeOf (getD (slotsOf ds) s 0)) ≡ busy readers s (a .blocks) 8
   unfolding inUse
   in-use-is readers s hs = used-below readers s hs 8 (omega arith)
 
@@ -190,17 +194,19 @@ module _ (M S : ℕ) (z : Shape M S) (ds : List ℕ) (d : Listing S ds) (img tab
       go : (b : Block) → Keeps S (slotsOf ds) tab n (a .slots) b → opens b ≢ suc s
       go closed k q = omega arith
       go (listing p) k q = omega arith
-      go (reading t j i) k q = absurd-bool (k .live) (ap (λ (x : ℕ). live ((getD (a .slots) x noFile) .name) 0) (omega (arith, q)) ∙ u)
-      go (writing t ub) k q = absurd-bool (k .live) (ap (λ (x : ℕ). live ((getD (a .slots) x noFile) .name) 0) (omega (arith, q)) ∙ u)
+      go (reading t j i) k q = absurd-bool (k .alive) (ap (λ (x : ℕ). live ((getD (a .slots) x noFile) .name) 0) (omega (arith, q)) ∙ u)
+      go (writing t ub) k q = absurd-bool (k .alive) (ap (λ (x : ℕ). live ((getD (a .slots) x noFile) .name) 0) (omega (arith, q)) ∙ u)
 
 -- ---- what busy says of a block
 
-pub not-busy : (readers : Bool) (s : ℕ) (bs : List Block) (c n : ℕ) → busy readers s bs c ≡ false → n < c → holdsOpen readers s (getD bs n closed) ≡ false
+pub not-busy : (readers : Bool) (s : ℕ) (bs : List Block) (c n : ℕ) → busy readers s bs c ≡ false → n < c
+    → holdsOpen readers s (getD bs n closed) ≡ false
 unfolding busy
 not-busy readers s bs zero n e h = absurd (omega arith)
 not-busy readers s bs (suc c) n e h = go (λ q h. not-busy readers s bs c n q h) (holdsOpen readers s (getD bs c closed)) refl e (ℕ-discrete n c)
   where
-    go : (busy readers s bs c ≡ false → n < c → holdsOpen readers s (getD bs n closed) ≡ false) → (u : Bool) → holdsOpen readers s (getD bs c closed) ≡ u
+    go : (busy readers s bs c ≡ false → n < c → holdsOpen readers s (getD bs n closed) ≡ false) → (u : Bool)
+        → holdsOpen readers s (getD bs c closed) ≡ u
         → pick u true (busy readers s bs c) ≡ false → Dec (n ≡ c) → holdsOpen readers s (getD bs n closed) ≡ false
     go ih true p q d = absurd-bool {b = true} refl q
     go ih false p q (yes x) = ap (λ (y : ℕ). holdsOpen readers s (getD bs y closed)) x ∙ p

@@ -6,14 +6,14 @@ use mathlib.Core.List.{List, [], _∷_, _++_, append-assoc, append-nil}
 use Prim.Native.Nat.{ℕ, zero, suc, _+_, _-_, _*_, _/_, _%_, _≤_, _<_}
 use native.Mathlib.Omega.{arith}
 use native.Mathlib.Decide.{ℕ-discrete, decLt}
-use lib.ListN.{length, getD, set, replicate}
+use lib.ListN.{length, getD, set}
 use lib.Seq.{getD-set-same, getD-set-other}
 use lib.Dec.{eqb}
 use borrow.Author.Tests.{eq-eqb, ne-eqb, eqb-true, lt-ltb}
 use Rattle.rules.specs.Bytes.{pick, within, wordAt, part, over, one, zeros}
 use Rattle.rules.specs.Names.{legal}
-use Rattle.rules.specs.Directory.{live, directory, slotsOf, sizeAt}
-use Rattle.rules.specs.Block.{idle, presettable, presetIn}
+use Rattle.rules.specs.Directory.{live, directory, slotsOf, sizeAt, vacant}
+use Rattle.rules.specs.Block.{idle, presettable, presetIn, preset}
 use Rattle.rules.specs.Call.{served, fits}
 use Rattle.laws.specs.Tests.{both}
 use Rattle.laws.specs.Addresses.{Shape}
@@ -22,11 +22,11 @@ use Rattle.chains.specs.Directory.{Listing}
 use Rattle.demands.specs.Ledger.{File, noFile, Block, closed, listing, reading, writing, Ledger, Request, Fate, denied, granted, reply, after, nowhere, slot, fileNamed, vacantSlot, holdsOpen, busy, activity, block, file, onBlock, onFile, withLast, withName, newFile, padTo, openedToRead, openedToWrite, shutBlock, performed, fate}
 use Rattle.demands.specs.Relation.{opens, writes, Writing, Keeps}
 use Rattle.demands.specs.Quiet.{activity-is, nobody, writes-opens}
-use Rattle.demands.specs.Meets.{request, Sure}
+use Rattle.demands.specs.Meets.{Sure}
 use Rattle.demands.specs.Searches.{seek-found}
-use Rattle.demands.specs.Calls.{presettable-is}
+use Rattle.demands.specs.Calls.{offset-is}
 use Rattle.demands.specs.Changes.{Changes, changes, rename-legal}
-use Rattle.demands.specs.Survey.{ledgerOf}
+use Rattle.demands.specs.Diskette.{ledgerOf, request}
 use Rattle.demands.specs.Service.{flex, replied, Call, setting, extending, asking, Machine, Entry, answers, gave, next, entry, run, log}
 use Rattle.demands.specs.History.{then, history, concat, front, content, renames, nameAfter, nameThen, Survives, sentBy}
 use Rattle.demands.specs.Demands.{Start, lastOf, perOf, told, Asks, Idle, nameIn, rest, ledgerAfter, ReadBack, ClosedWith, WrittenTo, Created, Demand2}
@@ -37,17 +37,17 @@ use Rattle.demands.specs.Got.{at-start, reads}
 
 -- ---- zeros to the end of the sector
 
-pad-is : (n : ℕ) (l : List ℕ) → length l ≤ n → padTo n l ≡ l ++ zeros (n - length l)
+pad-none : (n : ℕ) → padTo n [] ≡ zeros n
 unfolding padTo zeros
-pad-is zero [] h = refl
+pad-none zero = refl
+pad-none (suc n) = ap (λ (y : List ℕ). 0 ∷ y) (pad-none n)
+
+pad-is : (n : ℕ) (l : List ℕ) → length l ≤ n → padTo n l ≡ l ++ zeros (n - length l)
+unfolding padTo
+pad-is zero [] h = pad-none zero
 pad-is zero (x ∷ l) h = absurd (omega arith)
-pad-is (suc n) [] h =
-    let e : n - 0 ≡ n = omega arith in
-    let g : suc n ≡ suc n - 0 = omega arith in
-    ap (λ (y : List ℕ). 0 ∷ y) (pad-is n [] (omega arith) ∙ ap (λ (k : ℕ). replicate {A = ℕ} k 0) e) ∙ ap (λ (k : ℕ). replicate {A = ℕ} k 0) g
-pad-is (suc n) (x ∷ l) h =
-    let e : n - length l ≡ suc n - suc (length l) = omega arith in
-    ap (λ (y : List ℕ). x ∷ y) (pad-is n l (omega arith) ∙ ap (λ (k : ℕ). l ++ replicate {A = ℕ} k 0) e)
+pad-is (suc n) [] h = pad-none (suc n) ∙ ap zeros (omega arith)
+pad-is (suc n) (x ∷ l) h = ap (λ (y : List ℕ). x ∷ y) (pad-is n l (omega arith)) ∙ ap (λ (k : ℕ). x ∷ (l ++ zeros k)) (omega arith)
 
 zeros-none : zeros 0 ≡ []
 unfolding zeros
@@ -97,11 +97,13 @@ module _ (M S : ℕ) (z : Shape M S) (ds : List ℕ) (d : Listing S ds) where
           let st = step M S z ds d x a g n b h in
           by (fate M S a n (request (x .tab) n b)) (changes M S a n (request (x .tab) n b)) (st .sure) (st .ans)
         where
-          by : (φ : Fate) → Changes a n (request (x .tab) n b) φ → Sure φ → answers flex x n b ≡ reply φ → legal ((request (x .tab) n b) .rename) 0 ≡ true
+          by : (φ : Fate) → Changes a n (request (x .tab) n b) φ → Sure φ → answers flex x n b ≡ reply φ
+              → legal ((request (x .tab) n b) .rename) 0 ≡ true
           by (denied v) k su an = absurd (su (sym an ∙ q))
           by (granted v a′) k su an = rename-legal a a′ n (request (x .tab) n b) k c
 
-  legal-then : (cs : List Call) (x : Machine) (a : Ledger) → Fine M S ds x a → (nm : List ℕ) → legal nm 0 ≡ true → legal (nameThen nm (log flex x cs)) 0 ≡ true
+  legal-then : (cs : List Call) (x : Machine) (a : Ledger) → Fine M S ds x a → (nm : List ℕ) → legal nm 0 ≡ true
+      → legal (nameThen nm (log flex x cs)) 0 ≡ true
   unfolding log entry nameThen
   legal-then [] x a g nm l = l
   legal-then (setting n i v ∷ cs) x a g nm l = legal-then cs (next flex x (setting n i v)) a (set-step M S z ds d x a g n i v) nm l
@@ -111,7 +113,8 @@ module _ (M S : ℕ) (z : Shape M S) (ds : List ℕ) (d : Listing S ds) where
       legal-then cs (next flex x (asking n b)) (then M S a en) (one-call M S z ds d x a g n b .0) (nameAfter nm en) (rename-ok x a g n b nm l (renames nm en) refl)
 
   -- the history's ledger after an accepted call
-  ledger-after : (x : Machine) (a a′ : Ledger) (n b v : ℕ) → fate M S a n (request (x .tab) n b) ≡ granted v a′ → answers flex x n b ≡ 0 → ledgerAfter flex M S x a n b ≡ a′
+  ledger-after : (x : Machine) (a a′ : Ledger) (n b v : ℕ) → fate M S a n (request (x .tab) n b) ≡ granted v a′ → answers flex x n b ≡ 0
+      → ledgerAfter flex M S x a n b ≡ a′
   unfolding history entry
   ledger-after x a a′ n b v e q = rw (eq-eqb (answers flex x n b) 0 q, e) refl
 
@@ -124,7 +127,8 @@ module _ (M S : ℕ) (z : Shape M S) (ds : List ℕ) (d : Listing S ds) where
     opened : fate M S a m q ≡ granted 0 (onBlock a m (reading s 0 0))
     unfolding performed served within openedToRead
     opened =
-        let fd : fileNamed (part (x .tab) (320 * m + 4) 11) (a .slots) ≡ slot s = ap (λ (y : List ℕ). fileNamed y (a .slots)) nm ∙ found a (g .tidy) s f r in
+        let fd : fileNamed (part (x .tab) (320 * m + 4) 11) (a .slots) ≡ slot s =
+        ap (λ (y : List ℕ). fileNamed y (a .slots)) nm ∙ found a (g .tidy) s f r in
         let lg : legal (part (x .tab) (320 * m + 4) 11) 0 ≡ true = ap (λ (y : List ℕ). legal y 0) nm ∙ ok in
         fate-of M S a m q 1 (k .function) refl (k .drive) (fits-idle 1 (activity (block a m)) refl i)
         ∙ (rw (k .function, lg, fd, quiet-free (a .blocks) s 8 (r .quiet)) refl)
@@ -133,7 +137,8 @@ module _ (M S : ℕ) (z : Shape M S) (ds : List ℕ) (d : Listing S ds) where
     read-back =
         let st = step M S z ds d x a g m b (k .block) in
         let a1 = onBlock a m (reading s 0 0) in
-        let g1 : Fine M S ds (next flex x (asking m b)) a1 = subst (λ (φ : Fate). Fine M S ds (next flex x (asking m b)) (after a φ)) opened (st .fine) in
+        let g1 : Fine M S ds (next flex x (asking m b)) a1 =
+        subst (λ (φ : Fate). Fine M S ds (next flex x (asking m b)) (after a φ)) opened (st .fine) in
         record {
           opens = st .ans ∙ ap reply opened;
           reads = λ cs op. reads M S z ds d cs (next flex x (asking m b)) a1 g1 m s 0 (concat (f .body)) (k .block)
@@ -147,7 +152,7 @@ module _ (M S : ℕ) (z : Shape M S) (ds : List ℕ) (d : Listing S ds) where
     qc = request (x .tab) n b
 
     wr : Writing S (slotsOf ds) (x .tab) n (file a s) s (w .left)
-    wr = subst (λ (y : Block). Keeps S (slotsOf ds) (x .tab) n (a .slots) y) (w .block) (g .agrees .keeps n hn)
+    wr = subst (λ (y : Block). Keeps S (slotsOf ds) (x .tab) n (a .slots) y) (w .writer) (g .agrees .keeps n hn)
 
     body-length : length ((file a s) .body) ≡ length ((file a s) .secs)
     body-length = ap length (g .agrees .holds s (wr .slot) .body) ∙ length-contents (x .img) ((file a s) .secs)
@@ -172,16 +177,17 @@ module _ (M S : ℕ) (z : Shape M S) (ds : List ℕ) (d : Listing S ds) where
     quiet-now m hm q = go (ℕ-discrete m n)
       where
         go : Dec (m ≡ n) → ⊥
-        go (yes e) = omega (arith, q, ap writes (ap (λ (k : ℕ). getD (set (a .blocks) n closed) k closed) e ∙ getD-set-same (a .blocks) n closed closed (omega (arith, g .agrees .nb))))
+        go (yes e) =
+            omega (arith, q, ap writes (ap (λ (k : ℕ). getD (set (a .blocks) n closed) k closed) e ∙ getD-set-same (a .blocks) n closed closed (omega (arith, g .agrees .nb))))
         go (no e) =
             let y : writes (getD (a .blocks) m closed) ≡ suc s = ap writes (sym (getD-set-other (a .blocks) n m closed closed e)) ∙ q in
-            nobody M S z ds d (x .img) (x .tab) a (g .agrees) n hn s (w .left) (w .block) m hm e (sym (writes-opens (getD (a .blocks) m closed) (omega (arith, y))) ∙ y)
+            nobody M S z ds d (x .img) (x .tab) a (g .agrees) n hn s (w .left) (w .writer) m hm e (sym (writes-opens (getD (a .blocks) m closed) (omega (arith, y))) ∙ y)
 
     shut-fate : Shut (shutBlock M S a n qc (writing s (w .left)))
     shut-fate = go (ℕ-discrete (length (w .left)) 0)
       where
         alive : live ((file a s) .name) 0 ≡ true
-        alive = wr .live
+        alive = wr .alive
 
         low : s < length (a .slots)
         low = omega (arith, g .agrees .ns, wr .slot)
@@ -223,13 +229,14 @@ module _ (M S : ℕ) (z : Shape M S) (ds : List ℕ) (d : Listing S ds) where
     close-fate : fate M S a n qc ≡ shutBlock M S a n qc (writing s (w .left))
     unfolding performed served within fits
     close-fate =
-        fate-of M S a n qc 4 code refl (wr .drive) (ap (λ (y : Block). fits 4 (activity y)) (w .block)) ∙ (rw (code, w .block) refl)
+        fate-of M S a n qc 4 code refl (wr .drive) (ap (λ (y : Block). fits 4 (activity y)) (w .writer)) ∙ (rw (code, w .writer) refl)
 
     pub closed-with : legal nm 0 ≡ true → ClosedWith flex M S x a n nm sent b
     closed-with ok =
         let st = step M S z ds d x a g n b hn in
         let sh = subst Shut (sym close-fate) shut-fate in
-        let g1 : Fine M S ds (next flex x (asking n b)) (sh .a′) = subst (λ (φ : Fate). Fine M S ds (next flex x (asking n b)) (after a φ)) (sh .is) (st .fine) in
+        let g1 : Fine M S ds (next flex x (asking n b)) (sh .a′) =
+        subst (λ (φ : Fate). Fine M S ds (next flex x (asking n b)) (after a φ)) (sh .is) (st .fine) in
         let al : ledgerAfter flex M S x a n b ≡ sh .a′ = ledger-after x a (sh .a′) n b 0 (sh .is) (st .ans ∙ ap reply (sh .is)) in
         record {
           closes = st .ans ∙ ap reply (sh .is);
@@ -237,7 +244,8 @@ module _ (M S : ℕ) (z : Shape M S) (ds : List ℕ) (d : Listing S ds) where
               let x1 = next flex x (asking n b) in
               let nm′ = nameThen nm (log flex x1 cs) in
               let fn : nameThen (sh .f .name) (log flex x1 cs) ≡ nm′ = ap (λ (y : List ℕ). nameThen y (log flex x1 cs)) (sh .name) in
-              let rs = rests M S z ds d cs x1 (sh .a′) g1 s (sh .f) (sh .at-rest) (subst (λ (y : List ℕ). Survives y (log flex x1 cs)) (sym (sh .name)) sv) in
+              let rs =
+              rests M S z ds d cs x1 (sh .a′) g1 s (sh .f) (sh .at-rest) (subst (λ (y : List ℕ). Survives y (log flex x1 cs)) (sym (sh .name)) sv) in
               let rs2 : Rests (history M S (sh .a′) (log flex x1 cs)) s (withName (sh .f) nm′) =
               subst (λ (y : List ℕ). Rests (history M S (sh .a′) (log flex x1 cs)) s (withName (sh .f) y)) fn rs in
               subst (λ (l : List ℕ). ReadBack flex M S (run flex x1 cs) l m c) (sh .bytes)
@@ -271,7 +279,7 @@ module _ (M S : ℕ) (z : Shape M S) (ds : List ℕ) (d : Listing S ds) where
         ∙ (rw (k .function, ok, none, room) refl)
 
     low : s < length (a .slots)
-    low = seek-found (λ y. Rattle.rules.specs.Directory.vacant y 0) (a .slots) s room .low
+    low = seek-found (λ y. vacant y 0) (a .slots) s room .low
 
     starts : Wrote a1 n s (nameIn x n) []
     unfolding content
@@ -279,7 +287,7 @@ module _ (M S : ℕ) (z : Shape M S) (ds : List ℕ) (d : Listing S ds) where
         let sf = getD-set-same (a .slots) s nf noFile low in
         record {
           left = [];
-          block = getD-set-same (a .blocks) n (writing s []) closed (omega (arith, g .agrees .nb, k .block));
+          writer = getD-set-same (a .blocks) n (writing s []) closed (omega (arith, g .agrees .nb, k .block));
           name = ap (λ (y : File). y .name) sf;
           bytes = ap (λ (y : File). content (y .body) []) sf;
           whole = λ y. sym (ap (λ (y : File). 252 * length (y .secs)) sf);
@@ -304,16 +312,20 @@ module _ (M S : ℕ) (z : Shape M S) (ds : List ℕ) (d : Listing S ds) where
               });
         }
       where
-        size-is : (y : Machine) (h : Ledger) → Fine M S ds y h → (sent : List ℕ) → Wrote h n s (nameIn x n) sent → sizeAt (y .img) o ≡ (length sent + 251) / 252
+        size-is : (y : Machine) (h : Ledger) → Fine M S ds y h → (sent : List ℕ) → Wrote h n s (nameIn x n) sent
+            → sizeAt (y .img) o ≡ (length sent + 251) / 252
         size-is y h g2 sent w =
-            let wr : Writing S (slotsOf ds) (y .tab) n (file h s) s (w .left) = subst (λ (v : Block). Keeps S (slotsOf ds) (y .tab) n (h .slots) v) (w .block) (g2 .agrees .keeps n (k .block)) in
-            let c = g2 .agrees .holds s (wr .slot) .chain (wr .live) in
+            let wr : Writing S (slotsOf ds) (y .tab) n (file h s) s (w .left) =
+            subst (λ (v : Block). Keeps S (slotsOf ds) (y .tab) n (h .slots) v) (w .writer) (g2 .agrees .keeps n (k .block)) in
+            let c = g2 .agrees .holds s (wr .slot) .chain (wr .alive) in
             let e : wordAt (y .img) (o + 17) ≡ length ((file h s) .secs) = ap (wordAt (y .img)) (omega arith) ∙ c .size in
             e ∙ sym (count wr (ℕ-discrete (length (w .left)) 0))
           where
-            count : Writing S (slotsOf ds) (y .tab) n (file h s) s (w .left) → Dec (length (w .left) ≡ 0) → (length sent + 251) / 252 ≡ length ((file h s) .secs)
+            count : Writing S (slotsOf ds) (y .tab) n (file h s) s (w .left) → Dec (length (w .left) ≡ 0)
+                → (length sent + 251) / 252 ≡ length ((file h s) .secs)
             count wr (yes q) = sectors-whole (length sent) (length ((file h s) .secs)) (w .whole q) .0
-            count wr (no q) = sectors-part (length sent) (length ((file h s) .secs)) (length (w .left)) (w .part (omega arith)) (omega arith) (wr .short) .0
+            count wr (no q) =
+                sectors-part (length sent) (length ((file h s) .secs)) (length (w .left)) (w .part (omega arith)) (omega arith) (wr .short) .0
 
 -- ---- the demand
 
@@ -330,15 +342,17 @@ module _ (x : Machine) (st : Start x) (cs : List Call) where
   fine : Fine (lastOf x) (perOf x) ds x0 a0
   fine = always (lastOf x) (perOf x) (start-shape x st) ds (start-list x st) cs x (ledgerOf (perOf x) (x .img)) (start-fine x st) .0
 
-  preset-done : (n i v : ℕ) → n < 8 → presettable i ≡ true → Idle a0 n → flex .preset (x0 .tab) n i v ≡ replied 0 (over (x0 .tab) (320 * n + i) (one v))
-  unfolding Rattle.rules.specs.Block.preset presetIn
+  preset-done : (n i v : ℕ) → n < 8 → presettable i ≡ true → Idle a0 n
+      → flex .preset (x0 .tab) n i v ≡ replied 0 (over (x0 .tab) (320 * n + i) (one v))
+  unfolding preset presetIn
   preset-done n i v hn p h =
-      let q = presettable-is i p in
-      let act : idle (getD (x0 .tab) (320 * n + 2) 0) ≡ true = ap idle (activity-is (perOf x) (slotsOf ds) (x0 .tab) n (a0 .slots) (block a0 n) (fine .agrees .keeps n hn)) ∙ h in
+      let q = offset-is i p in
+      let act : idle (getD (x0 .tab) (320 * n + 2) 0) ≡ true =
+      ap idle (activity-is (perOf x) (slotsOf ds) (x0 .tab) n (a0 .slots) (block a0 n) (fine .agrees .keeps n hn)) ∙ h in
       rw (eq-eqb (length (x0 .tab)) 2560 (fine .agrees .tlen), lt-ltb n 8 hn, ne-eqb i 0 (omega (arith, q .low)), p, act) refl
 
   function-done : (n v : ℕ) → n < 8 → flex .preset (x0 .tab) n 0 v ≡ replied 0 (over (x0 .tab) (320 * n + 0) (one v))
-  unfolding Rattle.rules.specs.Block.preset presetIn
+  unfolding preset presetIn
   function-done n v hn = rw (eq-eqb (length (x0 .tab)) 2560 (fine .agrees .tlen), lt-ltb n 8 hn) refl
 
 pub demand2 : Demand2 flex

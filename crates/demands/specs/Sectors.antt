@@ -8,7 +8,7 @@ use native.Mathlib.Omega.{arith}
 use lib.ListN.{length, getD, length-append}
 use lib.Dec.{eqb}
 use borrow.Author.Tests.{ne-eqb, eq-eqb}
-use Rattle.rules.specs.Bytes.{pick}
+use Rattle.rules.specs.Bytes.{pick, two}
 use Rattle.rules.specs.Image.{index, isData}
 use Rattle.rules.specs.Stores.{Store, store, stored}
 use Rattle.rules.specs.Directory.{slotsOf}
@@ -21,8 +21,8 @@ use Rattle.chains.specs.Addresses.{adr, adr-zero, adr-pos, adr-small, index-adr
 use Rattle.chains.specs.Chain.{first, lastOf, tally-last}
 use Rattle.chains.specs.Walk.{AllData}
 use Rattle.chains.specs.Directory.{Listing}
-use Rattle.demands.specs.Ledger.{File, noFile, Ledger, padTo}
-use Rattle.demands.specs.Relation.{secsOf, Agrees, all-le, all-low, all-high, slot-le}
+use Rattle.demands.specs.Ledger.{File, noFile, Ledger, padTo, secsOf}
+use Rattle.demands.specs.Relation.{Agrees, all-le, all-low, all-high, slot-le}
 
 -- ---- lists of data sectors
 
@@ -138,7 +138,7 @@ pad-at (suc n) (x ∷ l) (suc i) h = pad-at n l i (omega arith)
 -- ---- a link, unless there is no sector to hold it, is a store of two bytes or of nothing
 
 pub linked-is : (none : Bool) (m : List ℕ) (k x : ℕ) (ss : List Store)
-    → stored m (linked none k x ++ ss) ≡ stored m (store k 0 (pick none [] (Rattle.rules.specs.Bytes.two x)) ∷ ss)
+    → stored m (linked none k x ++ ss) ≡ stored m (store k 0 (pick none [] (two x)) ∷ ss)
 unfolding linked
 linked-is true m k x ss = ap (λ (y : List ℕ). stored y ss) (sym (over-is-sets m (256 * k + 0) []))
 linked-is false m k x ss = refl

@@ -17,8 +17,8 @@ use Rattle.laws.specs.Addresses.{Shape}
 use Rattle.chains.specs.Chain.{setLast, length-contents}
 use Rattle.chains.specs.Directory.{Listing}
 use Rattle.demands.specs.Ledger.{File, noFile, Block, closed, writing, Ledger, Request, Fate, denied, granted, reply, after, slot, busy, activity, block, file, onBlock, onFile, withLast, withNew, padTo, taken, transferred, performed, fate}
+use Rattle.demands.specs.Diskette.{request}
 use Rattle.demands.specs.Relation.{opens, writes, Writing, Keeps}
-use Rattle.demands.specs.Meets.{request}
 use Rattle.demands.specs.Searches.{not-busy, not-open}
 use Rattle.demands.specs.Tidy.{nameOf}
 use Rattle.demands.specs.Changes.{Change, Changes, changes, other-block, Slot, kept, own, fresh, lost, moved, slot-fate, live-not-room, open-live}
@@ -88,7 +88,7 @@ content-some body ub h = rw (ne-eqb (length ub) 0 (omega arith)) refl
 
 pub record Wrote (a : Ledger) (n s : ℕ) (nm sent : List ℕ) : Type 0 where
   pub left : List ℕ
-  pub block : Rattle.demands.specs.Ledger.block a n ≡ writing s left
+  pub writer : block a n ≡ writing s left
   pub name : (file a s) .name ≡ nm
   pub bytes : content ((file a s) .body) left ≡ sent
   pub whole : length left ≡ 0 → length sent ≡ 252 * length ((file a s) .secs)
@@ -108,7 +108,7 @@ module _ (M S : ℕ) (z : Shape M S) (ds : List ℕ) (d : Listing S ds) where
     f = file a s
 
     wr : Writing S (slotsOf ds) (x .tab) n (file a s) s (w .left)
-    wr = subst (λ (b : Block). Keeps S (slotsOf ds) (x .tab) n (a .slots) b) (w .block) (g .agrees .keeps n hn)
+    wr = subst (λ (b : Block). Keeps S (slotsOf ds) (x .tab) n (a .slots) b) (w .writer) (g .agrees .keeps n hn)
 
     set-b : (c : Block) → getD (set (a .blocks) n c) n closed ≡ c
     set-b c = getD-set-same (a .blocks) n c closed (omega (arith, g .agrees .nb))
@@ -127,7 +127,7 @@ module _ (M S : ℕ) (z : Shape M S) (ds : List ℕ) (d : Listing S ds) where
         took (onFile a fr s (withNew (file a s) k) n (writing s (q .byte ∷ [])))
         (record {
           left = q .byte ∷ [];
-          block = set-b (writing s (q .byte ∷ []));
+          writer = set-b (writing s (q .byte ∷ []));
           name = ap (λ (y : File). y .name) sf ∙ w .name;
           bytes = ap (λ (y : File). content (y .body) (q .byte ∷ [])) sf ∙ new-bytes k;
           whole = λ y. absurd (omega arith);
@@ -160,7 +160,7 @@ module _ (M S : ℕ) (z : Shape M S) (ds : List ℕ) (d : Listing S ds) where
             (took (onFile a (a .free) s (withLast (file a s) (padTo 251 (w .left) ++ q .byte ∷ [])) n (writing s []))
             (record {
               left = [];
-              block = set-b (writing s []);
+              writer = set-b (writing s []);
               name = ap (λ (y : File). y .name) sf ∙ w .name;
               bytes = ap (λ (y : File). content (y .body) []) sf
                   ∙ content-none (setLast ((file a s) .body) (padTo 251 (w .left) ++ q .byte ∷ [])) [] refl
@@ -176,7 +176,7 @@ module _ (M S : ℕ) (z : Shape M S) (ds : List ℕ) (d : Listing S ds) where
             (took (onBlock a n (writing s (w .left ++ q .byte ∷ [])))
             (record {
               left = w .left ++ q .byte ∷ [];
-              block = set-b (writing s (w .left ++ q .byte ∷ []));
+              writer = set-b (writing s (w .left ++ q .byte ∷ []));
               name = w .name;
               bytes = content-some ((file a s) .body) (w .left ++ q .byte ∷ []) (omega (arith, length-one-more (w .left) (q .byte)))
                   ∙ sym (append-assoc (concat (front ((file a s) .body))) (w .left) (q .byte ∷ []))
@@ -221,7 +221,8 @@ module _ (M S : ℕ) (z : Shape M S) (ds : List ℕ) (d : Listing S ds) where
   unfolding sentBy
   sent-own n e es = go (eqb (e .n) n) (eqb (e .ans) 0)
     where
-      go : (u v : Bool) → pick u (pick v (e .ask .byte ∷ sentBy n es) (sentBy n es)) (sentBy n es) ≡ pick u (pick v (e .ask .byte ∷ []) []) [] ++ sentBy n es
+      go : (u v : Bool)
+          → pick u (pick v (e .ask .byte ∷ sentBy n es) (sentBy n es)) (sentBy n es) ≡ pick u (pick v (e .ask .byte ∷ []) []) [] ++ sentBy n es
       go true true = refl
       go true false = refl
       go false v = refl
@@ -246,7 +247,7 @@ module _ (M S : ℕ) (z : Shape M S) (ds : List ℕ) (d : Listing S ds) where
       kept-by a′ p k =
           record {
             left = w .left;
-            block = p ∙ w .block;
+            writer = p ∙ w .writer;
             name = ap (λ (y : File). y .name) k ∙ w .name;
             bytes = ap (λ (y : File). content (y .body) (w .left)) k ∙ w .bytes ∙ sym (append-nil sent);
             whole = λ y. ap length (append-nil sent) ∙ w .whole y ∙ ap (λ (y : File). 252 * length (y .secs)) (sym k);
@@ -260,24 +261,26 @@ module _ (M S : ℕ) (z : Shape M S) (ds : List ℕ) (d : Listing S ds) where
           go : Dec (m < 8) → Dec (answers flex x m b ≡ 0) → Wrote (then M S a e) n s nm (sent ++ [])
           go h (no q) = subst (λ (y : Ledger). Wrote y n s nm (sent ++ [])) (sym (still q)) (kept-by a refl refl)
           go (no h) (yes q) = absurd (beyond (omega arith) q)
-          go (yes h) (yes q) = rw (eq-eqb (answers flex x m b) 0 q) (by (fate M S a m (request (x .tab) m b)) (changes M S a m (request (x .tab) m b)))
+          go (yes h) (yes q) =
+              rw (eq-eqb (answers flex x m b) 0 q) (by (fate M S a m (request (x .tab) m b)) (changes M S a m (request (x .tab) m b)))
             where
               by : (φ : Fate) → Changes a m (request (x .tab) m b) φ → Wrote (after a φ) n s nm (sent ++ [])
               by (denied v) c = kept-by a refl refl
               by (granted v a′) c =
-                  let k = open-kept x a g m h (request (x .tab) m b) a′ c n s hn (λ y. ne (sym y)) (ap opens (w .block)) in
+                  let k = open-kept x a g m h (request (x .tab) m b) a′ c n s hn (λ y. ne (sym y)) (ap opens (w .writer)) in
                   kept-by a′ (k .0) (k .1)
 
       -- its own
       own-call : m ≡ n → (request (x .tab) m b) .code ≡ 0 → Now
       own-call q c =
           let hm : m < 8 = omega arith in
-          let bm : block a m ≡ writing s (w .left) = ap (block a) q ∙ w .block in
-          let wr : Writing S (slotsOf ds) (x .tab) m (file a s) s (w .left) = subst (λ (y : Block). Keeps S (slotsOf ds) (x .tab) m (a .slots) y) bm (g .agrees .keeps m hm) in
+          let bm : block a m ≡ writing s (w .left) = ap (block a) q ∙ w .writer in
+          let wr : Writing S (slotsOf ds) (x .tab) m (file a s) s (w .left) =
+          subst (λ (y : Block). Keeps S (slotsOf ds) (x .tab) m (a .slots) y) bm (g .agrees .keeps m hm) in
           let φ : fate M S a m (request (x .tab) m b) ≡ transferred M S a m (request (x .tab) m b) (writing s (w .left)) =
           fate-zero M S a m (request (x .tab) m b) (writing s (w .left)) c (wr .drive) bm fits-two in
           let st = step M S z ds d x a g m b hm in
-          let wm : Wrote a m s nm sent = record { left = w .left; block = bm; name = w .name; bytes = w .bytes; whole = w .whole; part = w .part } in
+          let wm : Wrote a m s nm sent = record { left = w .left; writer = bm; name = w .name; bytes = w .bytes; whole = w .whole; part = w .part } in
           let y = subst (Wrought a m s nm sent b) (sym φ) (own-write x a g m s nm sent hm wm (request (x .tab) m b)) in
           rw (eq-eqb m n q) (by (fate M S a m (request (x .tab) m b)) (st .ans) y q)
         where
@@ -297,12 +300,15 @@ module _ (M S : ℕ) (z : Shape M S) (ds : List ℕ) (d : Listing S ds) where
           go (no q) = other q
 
   -- WRITING: whatever else is called, the file has what was sent to it, and while a sector is free every byte is accepted
-  pub written : (cs : List Call) (x : Machine) (a : Ledger) → Fine M S ds x a → (n s : ℕ) (nm sent : List ℕ) → n < 8 → Wrote a n s nm sent → Only n 0 (log flex x cs)
+  pub written : (cs : List Call) (x : Machine) (a : Ledger) → Fine M S ds x a → (n s : ℕ) (nm sent : List ℕ) → n < 8 → Wrote a n s nm sent
+      → Only n 0 (log flex x cs)
       → Wrote (history M S a (log flex x cs)) n s nm (sent ++ sentBy n (log flex x cs)) × Accepts flex M S n x a cs
   unfolding log history entry sentBy
   written [] x a g n s nm sent hn w op = (subst (λ (l : List ℕ). Wrote a n s nm l) (sym (append-nil sent)) w, tt)
-  written (setting m i v ∷ cs) x a g n s nm sent hn w op = written cs (next flex x (setting m i v)) a (set-step M S z ds d x a g m i v) n s nm sent hn w op
-  written (extending m c ∷ cs) x a g n s nm sent hn w op = written cs (next flex x (extending m c)) a (extend-step M S z ds d x a g m c) n s nm sent hn w op
+  written (setting m i v ∷ cs) x a g n s nm sent hn w op =
+      written cs (next flex x (setting m i v)) a (set-step M S z ds d x a g m i v) n s nm sent hn w op
+  written (extending m c ∷ cs) x a g n s nm sent hn w op =
+      written cs (next flex x (extending m c)) a (extend-step M S z ds d x a g m c) n s nm sent hn w op
   written (asking m b ∷ cs) x a g n s nm sent hn w op =
       let en = e x a g m b in
       let w1 = wrote-one x a g m b n s nm sent hn w (op .0) in

@@ -4,10 +4,11 @@ use mathlib.Core.List.{List, [], _∷_, _++_}
 use Prim.Native.Nat.{ℕ}
 use Rattle.rules.specs.Stores.{stored, puts}
 use Rattle.rules.specs.Outcome.{Effect, effect, answer, given, onImage, onBlock, Out, out, left}
-use Rattle.rules.specs.Block.{blockAt}
-use Rattle.rules.specs.Census.{Survey}
+use Rattle.rules.specs.Block.{blockAt, extension as extensionRule, preset as presetRule}
+use Rattle.rules.specs.Census.{Survey, census as censusRule}
 use Rattle.demands.specs.Ledger.{Request}
-use Rattle.demands.specs.Meets.{request}
+use Rattle.demands.specs.Diskette.{request}
+use Rattle.rules.specs.Call.{call as callRule}
 
 -- an answer, and the table afterwards
 pub data Reply : Type 0 where
@@ -39,10 +40,10 @@ leaves-left img tab n (effect a b ss ps) = refl
 -- OURS: what the entries promise, by the rules
 abbrev pub flex : Service
 flex = record {
-  preset = λ tab n i v. settledOn tab n (Rattle.rules.specs.Block.preset tab n i v);
-  extension = λ tab n c. settledOn tab n (Rattle.rules.specs.Block.extension tab n c);
-  call = λ img tab n b. leaves img tab n (Rattle.rules.specs.Call.call img tab n b);
-  census = λ img xs ys. Rattle.rules.specs.Census.census img xs ys;
+  preset = λ tab n i v. settledOn tab n (presetRule tab n i v);
+  extension = λ tab n c. settledOn tab n (extensionRule tab n c);
+  call = λ img tab n b. leaves img tab n (callRule img tab n b);
+  census = λ img xs ys. censusRule img xs ys;
 }
 
 -- ---- what a call leaves

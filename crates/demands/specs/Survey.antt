@@ -22,8 +22,9 @@ use Rattle.chains.specs.Addresses.{Sized}
 use Rattle.chains.specs.Chain.{Chain, contents}
 use Rattle.chains.specs.Directory.{Listing, directory-is, directory-sound}
 use Rattle.chains.specs.Walk.{chainAt, length-walk, numbers, numbers-append, numbers-walk, AllData, chain-sound, chain-complete, once-sound, once-complete}
-use Rattle.demands.specs.Ledger.{File, noFile, Block, closed, Ledger}
-use Rattle.demands.specs.Relation.{tb, secsOf, writes, Holds, Keeps, Agrees}
+use Rattle.demands.specs.Diskette.{sectorsAt, fileAt, filesAt, ledgerOf, ledgerNumbers, ownersFrom, ledgerOwners}
+use Rattle.demands.specs.Ledger.{File, noFile, Block, closed, Ledger, secsOf}
+use Rattle.demands.specs.Relation.{tb, writes, Holds, Keeps, Agrees}
 use Rattle.demands.specs.Sectors.{free-data, free-count, secs-data, secs-count}
 use Rattle.demands.specs.Searches.{live-at, part-head}
 use Rattle.demands.specs.Tidy.{nameOf, Tidy, holed-sound, holed-complete, twins-sound, twins-complete}
@@ -33,27 +34,6 @@ unfolding neverUsed
 unused-part m o = ap (λ (x : ℕ). eqb x 0) (part-head m o 10)
 
 -- ---- the files of an image
-
--- the sectors of the slot at o: those of its chain, if it is live
-abbrev pub sectorsAt : ℕ → List ℕ → ℕ → List ℕ
-sectorsAt S img o = pick (live img o) (chainAt S img (o + 13)) []
-
-unfoldable pub fileAt : ℕ → List ℕ → ℕ → File
-fileAt S img o = record {
-  name = part img o 11;
-  mode = part img (o + 11) 2;
-  date = part img (o + 19) 5;
-  secs = sectorsAt S img o;
-  body = contents img (sectorsAt S img o);
-}
-
-unfoldable pub filesAt : ℕ → List ℕ → List ℕ → List File
-filesAt S img [] = []
-filesAt S img (o ∷ os) = fileAt S img o ∷ filesAt S img os
-
--- the ledger of an image, all blocks closed
-unfoldable pub ledgerOf : ℕ → List ℕ → Ledger
-ledgerOf S img = record { free = chainAt S img 541; slots = filesAt S img (slots img S); blocks = replicate 8 closed }
 
 pub length-files : (S : ℕ) (img os : List ℕ) → length (filesAt S img os) ≡ length os
 unfolding filesAt
@@ -67,17 +47,6 @@ files-at S img (o ∷ os) zero h = refl
 files-at S img (o ∷ os) (suc i) h = files-at S img os i (omega arith)
 
 -- ---- what the census lists
-
--- of a ledger: the numbers of its sectors, free ones first, then slot by slot; and for each its owner
-abbrev pub ledgerNumbers : ℕ → Ledger → List ℕ
-ledgerNumbers S a = numbers S (a .free ++ flat secsOf (a .slots))
-
-abbrev pub ownersFrom : ℕ → List File → List ℕ
-ownersFrom owner [] = []
-ownersFrom owner (f ∷ fs) = replicate (length (f .secs)) owner ++ ownersFrom (owner + 1) fs
-
-abbrev pub ledgerOwners : Ledger → List ℕ
-ledgerOwners a = replicate (length (a .free)) 0 ++ ownersFrom 1 (a .slots)
 
 file-numbers : (S : ℕ) (img : List ℕ) (o : ℕ) → fileNumbers img S o ≡ numbers S (sectorsAt S img o)
 unfolding fileNumbers
@@ -127,7 +96,8 @@ files-right : (M S : ℕ) (img os : List ℕ) → filesRight img M S os ≡ true
 unfolding filesRight fileRight
 files-right M S img [] h i b v = absurd (omega arith)
 files-right M S img (o ∷ os) h zero b v =
-    let p : pick (live img o) (chainRight img M S (startAt img o) (endAt img o) (sizeAt img o)) true ≡ true = both (fileRight img M S o) (filesRight img M S os) h .0 in
+    let p : pick (live img o) (chainRight img M S (startAt img o) (endAt img o) (sizeAt img o)) true ≡ true =
+    both (fileRight img M S o) (filesRight img M S os) h .0 in
     rw v at p
 files-right M S img (o ∷ os) h (suc i) b v = files-right M S img os (both (fileRight img M S o) (filesRight img M S os) h .1) i (omega arith) v
 
@@ -142,7 +112,8 @@ right-files M S img (o ∷ os) h = rw (go (live img o) refl) (right-files M S im
     go true e = h 0 (omega arith) e
 
 -- the chain of a slot, as the census and as the relation name its record
-record-at : (M S : ℕ) (img : List ℕ) (o : ℕ) → chainRight img M S (startAt img o) (endAt img o) (sizeAt img o) ≡ chainRight img M S (wordAt img (o + 13)) (wordAt img (o + 13 + 2)) (wordAt img (o + 13 + 4))
+record-at : (M S : ℕ) (img : List ℕ) (o : ℕ)
+    → chainRight img M S (startAt img o) (endAt img o) (sizeAt img o) ≡ chainRight img M S (wordAt img (o + 13)) (wordAt img (o + 13 + 2)) (wordAt img (o + 13 + 4))
 record-at M S img o = ap₂ (λ (x y : ℕ). chainRight img M S (wordAt img (o + 13)) (wordAt img x) (wordAt img y)) (omega arith) (omega arith)
 
 flat-data : (M S : ℕ) (fs : List File) → ((i : ℕ) → i < length fs → AllData M S (secsOf (getD fs i noFile))) → AllData M S (flat secsOf fs)
@@ -193,7 +164,8 @@ module _ (M S : ℕ) (z : Shape M S) (img : List ℕ) (h : Sized M S img) (small
           subst (λ (f : File). AllData M S (secsOf f)) (sym (files-at S img (slotsOf ds) i c)) (secs-all i c)
 
       go : (c : ℕ) → tally x (chainAt S img 541) ≡ c → (S ≤ x) × (x < (M + 1) * S)
-      go zero e = flat-data M S (filesAt S img (slotsOf ds)) each x (omega (arith, t, e, tally-append x (chainAt S img 541) (flat secsOf (filesAt S img (slotsOf ds)))))
+      go zero e =
+          flat-data M S (filesAt S img (slotsOf ds)) each x (omega (arith, t, e, tally-append x (chainAt S img 541) (flat secsOf (filesAt S img (slotsOf ds)))))
       go (suc c) e = free-sound .1 x (omega (arith, e))
 
   holds-sound : (o : ℕ) → (live img o ≡ true → Chain S img (o + 13) (chainAt S img (o + 13))) → Holds S img o (fileAt S img o)
@@ -243,7 +215,8 @@ module _ (M S : ℕ) (z : Shape M S) (img : List ℕ) (h : Sized M S img) (small
   pub start-tidy : Tidy ((ledgerOf S img) .slots)
   unfolding ledgerOf
   start-tidy =
-      let long : (i : ℕ) → i < length (filesAt S img (slotsOf ds)) → i < length (slotsOf ds) = λ i b. omega (arith, length-files S img (slotsOf ds)) in
+      let long : (i : ℕ) → i < length (filesAt S img (slotsOf ds)) → i < length (slotsOf ds) =
+      λ i b. omega (arith, length-files S img (slotsOf ds)) in
       record {
         long = λ i b. ap length (name-at i (long i b)) ∙ length-part img (getD (slotsOf ds) i 0) 11;
         solid = λ i j a b e. live-name j (long j b) ∙ holed-sound img (slotsOf ds) (sane .no-hole) i j a (long j b)
@@ -252,7 +225,8 @@ module _ (M S : ℕ) (z : Shape M S) (img : List ℕ) (h : Sized M S img) (small
             (sym (name-at i (long i a)) ∙ w ∙ name-at j (long j b));
       }
     where
-      two : (i j : ℕ) → i ≢ j → i < length (slotsOf ds) → j < length (slotsOf ds) → live img (getD (slotsOf ds) i 0) ≡ true → live img (getD (slotsOf ds) j 0) ≡ true
+      two : (i j : ℕ) → i ≢ j → i < length (slotsOf ds) → j < length (slotsOf ds) → live img (getD (slotsOf ds) i 0) ≡ true
+          → live img (getD (slotsOf ds) j 0) ≡ true
           → part img (getD (slotsOf ds) i 0) 11 ≢ part img (getD (slotsOf ds) j 0) 11
       two i j ne a b u v w = go (native.Mathlib.Decide.decLt i j)
         where
@@ -281,7 +255,8 @@ module _ (M S : ℕ) (z : Shape M S) (ds : List ℕ) (d : Listing S ds) (img tab
   secs-back : (s : ℕ) → s < length (slotsOf ds) → sectorsAt S img (getD (slotsOf ds) s 0) ≡ (getD (a .slots) s noFile) .secs
   secs-back s b = rw (live-back s b) (go (live ((getD (a .slots) s noFile) .name) 0) refl)
     where
-      go : (u : Bool) → live ((getD (a .slots) s noFile) .name) 0 ≡ u → pick u (chainAt S img (getD (slotsOf ds) s 0 + 13)) [] ≡ (getD (a .slots) s noFile) .secs
+      go : (u : Bool) → live ((getD (a .slots) s noFile) .name) 0 ≡ u
+          → pick u (chainAt S img (getD (slotsOf ds) s 0 + 13)) [] ≡ (getD (a .slots) s noFile) .secs
       go true e = file-back s b e .0
       go false e = sym (r .holds s b .dead e)
 
@@ -314,7 +289,8 @@ module _ (M S : ℕ) (z : Shape M S) (ds : List ℕ) (d : Listing S ds) (img tab
       record {
         right = dr .0;
         no-hole = rw (dr .1) (holed-complete img (slotsOf ds) (λ i j x y e. live-back j y ∙ t .solid i j x (omega (arith, r .ns)) (unused-back i (omega arith) e)));
-        no-twins = rw (dr .1) (twins-complete img (slotsOf ds) (λ i j x y u v w. t .apart i j (omega arith) (omega (arith, r .ns)) (omega (arith, r .ns))
+        no-twins =
+            rw (dr .1) (twins-complete img (slotsOf ds) (λ i j x y u v w. t .apart i j (omega arith) (omega (arith, r .ns)) (omega (arith, r .ns))
             (sym (live-back i (omega arith)) ∙ u) (sym (live-back j y) ∙ v) (sym (r .holds i (omega arith) .name) ∙ w ∙ r .holds j y .name)));
         free = free-back .1;
         files = rw (dr .1) (right-files M S img (slotsOf ds) (λ i b v. record-at M S img (getD (slotsOf ds) i 0) ∙ file-back i b (sym (live-back i b) ∙ v) .1));
@@ -322,5 +298,6 @@ module _ (M S : ℕ) (z : Shape M S) (ds : List ℕ) (d : Listing S ds) (img tab
             ∙ once-complete M S (a .free ++ flat secsOf (a .slots)) (r .once));
       }
     where
-      unused-back : (i : ℕ) → i < length (slotsOf ds) → neverUsed img (getD (slotsOf ds) i 0) ≡ true → neverUsed ((getD (a .slots) i noFile) .name) 0 ≡ true
+      unused-back : (i : ℕ) → i < length (slotsOf ds) → neverUsed img (getD (slotsOf ds) i 0) ≡ true
+          → neverUsed ((getD (a .slots) i noFile) .name) 0 ≡ true
       unused-back i b e = ap (λ (x : List ℕ). neverUsed x 0) (sym (r .holds i b .name)) ∙ sym (unused-part img (getD (slotsOf ds) i 0)) ∙ e

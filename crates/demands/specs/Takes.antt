@@ -13,9 +13,9 @@ use Rattle.rules.specs.Bytes.{pick, wordAt, one, two, six, zeros}
 use Rattle.rules.specs.Stores.{Store, store, stored, Put, put, puts}
 use Rattle.rules.specs.Directory.{slotsOf}
 use Rattle.rules.specs.Outcome.{andThen}
-use Rattle.rules.specs.Transfer.{fresh, takeStores, takePuts, takeFor, takeSector, sent, fill}
+use Rattle.rules.specs.Transfer.{fresh, takeStores, takePuts, takeFor, takeSector, sent, fill, writing as writeByte}
 use Rattle.laws.specs.Bytes.{word-put, part-is, part-same, length-zeros, zeros-at}
-use Rattle.chains.specs.Tally.{tally, tally-append, tally-head, eq1-same, apart}
+use Rattle.chains.specs.Tally.{tally, tally-append, tally-head, eq1-same, apart, eq1-ne}
 use Rattle.laws.specs.Addresses.{Shape}
 use Rattle.chains.specs.Addresses.{adr, adr-zero, absurd-bool}
 use Rattle.chains.specs.Chain.{first, lastOf, Chain, tally-last, last-snoc, seg-same, seg-hang, contents-same, contents-append}
@@ -29,7 +29,7 @@ use Rattle.demands.specs.Meets.{Meets}
 use Rattle.chains.specs.Walk.{AllData}
 use Rattle.demands.specs.Sectors.{free-data, secs-data, secs-once, few, fits, sector-small, sector-index, sector-data, last-data, last-none, first-none, index-last, last-fit, first-small, last-small, linked-is}
 use Rattle.demands.specs.Marks.{slot-low, slot-high, slot-in}
-use Rattle.demands.specs.Fills.{w, placed-is, buffer-is, write-in, full-step}
+use Rattle.demands.specs.Fills.{w, placed-is, buffer-is, write-in, full-step, one-is}
 
 module _ (M S : ℕ) (z : Shape M S) (ds : List ℕ) (d : Listing S ds) (img tab : List ℕ) (a : Ledger) (r : Agrees M S ds img tab a) (n : ℕ) (hn : n < 8)
     (s : ℕ) (e : getD (a .blocks) n closed ≡ writing s []) (k : ℕ) (fr : List ℕ) (ef : a .free ≡ k ∷ fr) where
@@ -61,7 +61,7 @@ module _ (M S : ℕ) (z : Shape M S) (ds : List ℕ) (d : Listing S ds) (img tab
   h = r .holds s hs
 
   c : Chain S img (o + 13) l
-  c = h .chain (wr .live)
+  c = h .chain (wr .alive)
 
   fc : Chain S img 541 (k ∷ fr)
   fc = subst (λ (x : List ℕ). Chain S img 541 x) ef (r .free)
@@ -95,7 +95,8 @@ module _ (M S : ℕ) (z : Shape M S) (ds : List ℕ) (d : Listing S ds) (img tab
   abbrev img′ : List ℕ
   img′ = stored img takeS
 
-  third : (p : ℕ) → (1 ≤ length l → 256 * lastOf l 0 ≤ p → p < 256 * lastOf l 0 + 2 → ⊥) → 256 * lastOf l 0 + 0 ≤ p → p < 256 * lastOf l 0 + 0 + length lk → ⊥
+  third : (p : ℕ) → (1 ≤ length l → 256 * lastOf l 0 ≤ p → p < 256 * lastOf l 0 + 2 → ⊥) → 256 * lastOf l 0 + 0 ≤ p
+      → p < 256 * lastOf l 0 + 0 + length lk → ⊥
   unfolding two
   third p g u v = go (ℕ-discrete (length l) 0)
     where
@@ -103,7 +104,8 @@ module _ (M S : ℕ) (z : Shape M S) (ds : List ℕ) (d : Listing S ds) (img tab
       go (yes q) = let t : length lk ≡ 0 = rw (eq-eqb (length l) 0 q) refl in omega (arith, t)
       go (no q) = let t : length lk ≡ 2 = rw (ne-eqb (length l) 0 q) refl in g (omega arith) (omega arith) (omega (arith, t))
 
-  off : (p : ℕ) → (541 ≤ p → p < 547 → ⊥) → (256 * k ≤ p → p < 256 * k + 256 → ⊥) → (1 ≤ length l → 256 * lastOf l 0 ≤ p → p < 256 * lastOf l 0 + 2 → ⊥)
+  off : (p : ℕ) → (541 ≤ p → p < 547 → ⊥) → (256 * k ≤ p → p < 256 * k + 256 → ⊥)
+      → (1 ≤ length l → 256 * lastOf l 0 ≤ p → p < 256 * lastOf l 0 + 2 → ⊥)
       → (o + 13 ≤ p → p < o + 19 → ⊥) → Off p takeS
   unfolding six
   off p a b c d =
@@ -113,7 +115,8 @@ module _ (M S : ℕ) (z : Shape M S) (ds : List ℕ) (d : Listing S ds) (img tab
   ql h = last-data M S z l (secs-data M S z ds d img tab a r s hs) h .0
 
   -- outside of what is stored to
-  keep : (p : ℕ) → (541 ≤ p → p < 547 → ⊥) → (256 * k ≤ p → p < 256 * k + 256 → ⊥) → (1 ≤ length l → 256 * lastOf l 0 ≤ p → p < 256 * lastOf l 0 + 2 → ⊥)
+  keep : (p : ℕ) → (541 ≤ p → p < 547 → ⊥) → (256 * k ≤ p → p < 256 * k + 256 → ⊥)
+      → (1 ≤ length l → 256 * lastOf l 0 ≤ p → p < 256 * lastOf l 0 + 2 → ⊥)
       → (o + 13 ≤ p → p < o + 19 → ⊥) → getD img′ p 0 ≡ getD img p 0
   keep p a b c d = stored-off takeS img p (off p a b c d)
 
@@ -157,7 +160,7 @@ module _ (M S : ℕ) (z : Shape M S) (ds : List ℕ) (d : Listing S ds) (img tab
     where
       go : Dec (x ≡ k) → (S ≤ x) × (x < (M + 1) * S)
       go (yes q) = (omega (arith, klow), omega (arith, k-data .1))
-      go (no q) = secs-data M S z ds d img tab a r s hs x (omega (arith, t, tally-append x l (k ∷ []), Rattle.chains.specs.Tally.eq1-ne x k q))
+      go (no q) = secs-data M S z ds d img tab a r s hs x (omega (arith, t, tally-append x l (k ∷ []), eq1-ne x k q))
 
   long1 : 2560 ≤ length img
   long1 = long M S z ds d img tab a r
@@ -191,17 +194,20 @@ module _ (M S : ℕ) (z : Shape M S) (ds : List ℕ) (d : Listing S ds) (img tab
   unfolding six two
   link-is q =
       let t : lk ≡ two (adr S k) = rw (ne-eqb (length l) 0 (omega arith)) refl in
-      let b : 256 * lastOf l 0 + 256 ≤ length img = fits M S z ds d img tab a r (lastOf l 0) (last-data M S z l (secs-data M S z ds d img tab a r s hs) q .1) in
+      let b : 256 * lastOf l 0 + 256 ≤ length img =
+      fits M S z ds d img tab a r (lastOf l 0) (last-data M S z l (secs-data M S z ds d img tab a r s hs) q .1) in
       let t2 : length lk ≡ 2 = ap length t in
       word-put img′ (256 * lastOf l 0) (adr S k) (sector-small M S z k k-data)
       (stored-at takeS img 2 0 (256 * lastOf l 0) (omega arith) (omega arith) (omega arith) (omega arith) ((λ u v. omega (arith, ql q, ohigh)), tt) ∙ ap (λ (x : List ℕ). getD x 0 0) t)
       (stored-at takeS img 2 1 (256 * lastOf l 0 + 1) (omega arith) (omega arith) (omega arith) (omega arith) ((λ u v. omega (arith, ql q, ohigh)), tt) ∙ ap (λ (x : List ℕ). getD x 1 0) t)
 
   in-slot-kept : (i p : ℕ) → o + i ≡ p → (i < 13) → getD img′ p 0 ≡ getD img p 0
-  in-slot-kept i p q b = keep p (λ u v. omega (arith, olow)) (λ u v. omega (arith, klow, ohigh)) (λ x u v. omega (arith, ql x, ohigh)) (λ u v. omega arith)
+  in-slot-kept i p q b =
+      keep p (λ u v. omega (arith, olow)) (λ u v. omega (arith, klow, ohigh)) (λ x u v. omega (arith, ql x, ohigh)) (λ u v. omega arith)
 
   in-slot-late : (i p : ℕ) → o + i ≡ p → 19 ≤ i → i < 24 → getD img′ p 0 ≡ getD img p 0
-  in-slot-late i p q b b′ = keep p (λ u v. omega (arith, olow)) (λ u v. omega (arith, klow, ohigh)) (λ x u v. omega (arith, ql x, ohigh)) (λ u v. omega arith)
+  in-slot-late i p q b b′ =
+      keep p (λ u v. omega (arith, olow)) (λ u v. omega (arith, klow, ohigh)) (λ x u v. omega (arith, ql x, ohigh)) (λ u v. omega arith)
 
   holds-now : Holds S img′ o grown
   unfolding six
@@ -217,7 +223,7 @@ module _ (M S : ℕ) (z : Shape M S) (ds : List ℕ) (d : Listing S ds) (img tab
           seg = seg-hang S img img′ l (k ∷ []) (λ x. omega (arith, tk x)) (λ j i t ne b. sector j i (secs-data M S z ds d img tab a r s hs j t .0) (in-l j t) (omega arith) (λ o q. absurd (ne q))) link-is (c .seg)
               (word-put img′ (256 * k) 0 (omega arith) (ap (λ (p : ℕ). getD img′ p 0) (omega arith) ∙ new 0 (omega arith) ∙ fresh-link (length l + 1) 0 (omega arith)) (new 1 (omega arith) ∙ fresh-link (length l + 1) 1 (omega arith)) ∙ sym (adr-zero S), tt);
         };
-        dead = λ v. absurd-bool (wr .live) v;
+        dead = λ v. absurd-bool (wr .alive) v;
         body = sym (contents-append img′ l (k ∷ [])
             ∙ ap₂ (λ (x y : List (List ℕ)). x ++ y)
             (contents-same img img′ l
@@ -254,7 +260,9 @@ module _ (M S : ℕ) (z : Shape M S) (ds : List ℕ) (d : Listing S ds) (img tab
     buf : (i : ℕ) → i < 252 → tb tab′ n (68 + i) ≡ getD (b ∷ []) i 0
     unfolding six two one
     buf zero u = at 5 0 (68 + 0) (omega arith) (omega arith) (omega arith) (omega arith) (omega arith)
-    buf (suc i) u = at 1 (4 + suc i) (68 + suc i) (omega arith) (omega (arith, length-fresh (length l + 1))) (omega arith) (omega arith) (omega arith) ∙ fresh-data (length l + 1) (4 + suc i) (omega arith)
+    buf (suc i) u =
+        at 1 (4 + suc i) (68 + suc i) (omega arith) (omega (arith, length-fresh (length l + 1))) (omega arith) (omega arith) (omega arith)
+        ∙ fresh-data (length l + 1) (4 + suc i) (omega arith)
 
     t2-at : (i v : ℕ) → v < 65536 → getD tab′ (320 * n + i) 0 ≡ v / 256 % 256 → getD tab′ (320 * n + (i + 1)) 0 ≡ v % 256 → t2 tab′ n i ≡ v
     t2-at i v g x y = word-put tab′ (320 * n + i) v g x (ap (λ (p : ℕ). getD tab′ p 0) (omega arith) ∙ y)
@@ -266,7 +274,7 @@ module _ (M S : ℕ) (z : Shape M S) (ds : List ℕ) (d : Listing S ds) (img tab
           act = same 2 (omega arith) ∙ wr .act;
           drive = same 3 (omega arith) ∙ wr .drive;
           slot = hs;
-          live = wr .live;
+          alive = wr .alive;
           place = tp-same tab tab′ n (λ i h. same′ i (omega arith)) ∙ wr .place;
           start = t2-at 17 (adr S (first l′ 0)) (first-small M S z l′ l′-data) (at 0 0 17 (omega arith) (omega arith) (omega arith) (omega arith) (omega arith)) (at 0 1 18 (omega arith) (omega arith) (omega arith) (omega arith) (omega arith));
           size = t2-at 21 (length l + 1) (omega (arith, lfew)) (at 0 4 21 (omega arith) (omega arith) (omega arith) (omega arith) (omega arith)) (at 0 5 22 (omega arith) (omega arith) (omega arith) (omega arith) (omega arith)) ∙ sym (length-snoc l k);
@@ -322,7 +330,8 @@ module _ (M S : ℕ) (z : Shape M S) (ds : List ℕ) (d : Listing S ds) (img tab
   free-eq : (wordAt img 545 ≡ length (k ∷ fr)) × (wordAt img 541 ≡ adr S k) × (wordAt img 543 ≡ adr S (lastOf fr k))
   free-eq = (fc .size, fc .start, fc .end)
 
-  pub take-meets : (b : ℕ) → Meets M S ds img tab n (andThen (takeFor img tab M S (320 * n) o) (sent 4 b)) (granted 0 (onFile a fr s grown n (writing s (b ∷ []))))
+  pub take-meets : (b : ℕ)
+      → Meets M S ds img tab n (andThen (takeFor img tab M S (320 * n) o) (sent 4 b)) (granted 0 (onFile a fr s grown n (writing s (b ∷ []))))
   unfolding takeFor takePuts sent
   take-meets b =
       let sd = secs-data M S z ds d img tab a r s hs in
@@ -350,7 +359,8 @@ module _ (M S : ℕ) (z : Shape M S) (ds : List ℕ) (d : Listing S ds) (img tab
 -- ---- function 0 in writing
 
 module _ (M S : ℕ) (z : Shape M S) (ds : List ℕ) (d : Listing S ds) (img tab : List ℕ) (a : Ledger) (r : Agrees M S ds img tab a) (n : ℕ) (hn : n < 8) where
-  no-more : (s b : ℕ) → getD (a .blocks) n closed ≡ writing s [] → a .free ≡ [] → Meets M S ds img tab n (andThen (takeFor img tab M S (320 * n) (getD (slotsOf ds) s 0)) (sent 4 b)) (denied 7)
+  no-more : (s b : ℕ) → getD (a .blocks) n closed ≡ writing s [] → a .free ≡ []
+      → Meets M S ds img tab n (andThen (takeFor img tab M S (320 * n) (getD (slotsOf ds) s 0)) (sent 4 b)) (denied 7)
   unfolding takeFor
   no-more s b e ef =
       let wr = w M S z ds d img tab a r n hn s [] e in
@@ -363,14 +373,14 @@ module _ (M S : ℕ) (z : Shape M S) (ds : List ℕ) (d : Listing S ds) (img tab
   first-byte q s e (k ∷ fr) ef = take-meets M S z ds d img tab a r n hn s e k fr ef (q .byte)
 
   next-byte : (q : Request) (s : ℕ) (ub : List ℕ) → getD (a .blocks) n closed ≡ writing s ub → 1 ≤ length ub
-      → Meets M S ds img tab n (Rattle.rules.specs.Transfer.writing img tab M S (320 * n) (q .byte)) (transferred M S a n q (writing s ub))
-  unfolding Rattle.rules.specs.Transfer.writing fill sent
+      → Meets M S ds img tab n (writeByte img tab M S (320 * n) (q .byte)) (transferred M S a n q (writing s ub))
+  unfolding writeByte fill sent
   next-byte q s ub e h = go (ℕ-discrete (length ub) 251)
     where
       wr : Writing S (slotsOf ds) tab n (getD (a .slots) s noFile) s ub
       wr = w M S z ds d img tab a r n hn s ub e
 
-      go : Dec (length ub ≡ 251) → Meets M S ds img tab n (Rattle.rules.specs.Transfer.writing img tab M S (320 * n) (q .byte)) (transferred M S a n q (writing s ub))
+      go : Dec (length ub ≡ 251) → Meets M S ds img tab n (writeByte img tab M S (320 * n) (q .byte)) (transferred M S a n q (writing s ub))
       go (yes p) =
           let x = wr .busy h in
           let g = last-data M S z ((getD (a .slots) s noFile) .secs) (secs-data M S z ds d img tab a r s (wr .slot)) (wr .some h) in
@@ -383,7 +393,7 @@ module _ (M S : ℕ) (z : Shape M S) (ds : List ℕ) (d : Listing S ds) (img tab
             sector-data M S z (lastOf ((getD (a .slots) s noFile) .secs) 0) g,
             sector-index M S z (lastOf ((getD (a .slots) s noFile) .secs) 0) g,
             buffer-is M S z ds d img tab a r n hn s ub e 251 h (omega arith),
-            Rattle.demands.specs.Fills.one-is (q .byte),
+            one-is (q .byte),
           )
           (refl, unfold one in full-step M S z ds d img tab a r n hn s ub e (q .byte) p)
       go (no p) =
@@ -393,8 +403,8 @@ module _ (M S : ℕ) (z : Shape M S) (ds : List ℕ) (d : Listing S ds) (img tab
           (refl, write-in M S z ds d img tab a r n hn s ub e (q .byte) h (omega arith))
 
   pub write-meets : (q : Request) (s : ℕ) (ub : List ℕ) → getD (a .blocks) n closed ≡ writing s ub
-      → Meets M S ds img tab n (Rattle.rules.specs.Transfer.writing img tab M S (320 * n) (q .byte)) (transferred M S a n q (writing s ub))
-  unfolding Rattle.rules.specs.Transfer.writing takeSector
+      → Meets M S ds img tab n (writeByte img tab M S (320 * n) (q .byte)) (transferred M S a n q (writing s ub))
+  unfolding writeByte takeSector
   write-meets q s [] e =
       let wr = w M S z ds d img tab a r n hn s [] e in
       rw (eq-eqb (tb tab n 34) 0 (wr .idle refl), placed-is M S z ds d img tab a r n hn s [] e) (first-byte q s e (a .free) refl)

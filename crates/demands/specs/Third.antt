@@ -5,30 +5,38 @@ use mathlib.Core.List.{List, [], _∷_, _++_}
 use Prim.Native.Nat.{ℕ, zero, suc, _+_, _-_, _*_, _≤_, _<_}
 use native.Mathlib.Omega.{arith}
 use native.Mathlib.Decide.{ℕ-discrete}
-use lib.ListN.{length, getD, replicate, getD-replicate}
+use lib.Seq.{getD-drop}
+use lib.ListN.{drop, length-drop, List·getD-eq-default, length, getD, replicate, getD-replicate}
 use lib.Dec.{eqb}
-use borrow.Author.Tests.{ne-eqb}
+use borrow.Author.Tests.{eq-eqb, ne-eqb}
 use Rattle.rules.specs.Bytes.{pick, part}
 use Rattle.rules.specs.Image.{lastTrack, perTrack}
 use Rattle.rules.specs.Directory.{live, directory, slots, slotsOf}
-use Rattle.rules.specs.Census.{Survey, survey, census, listed, owners}
+use Rattle.rules.specs.Census.{survey, census, listed, owners, tally as count}
 use Rattle.laws.specs.Bytes.{part-is}
 use Rattle.laws.specs.Surveys.{Sane, census-accepts}
-use Rattle.chains.specs.Tally.{tally, flat}
+use Rattle.chains.specs.Tally.{flat}
 use Rattle.chains.specs.Once.{Once, once-length}
 use Rattle.laws.specs.Addresses.{Shape}
-use Rattle.chains.specs.Chain.{contents}
+use Rattle.chains.specs.Chain.{contents, empty}
 use Rattle.chains.specs.Directory.{Listing, directory-is}
 use Rattle.chains.specs.Walk.{numbers, length-numbers, tally-is, each-sound, once-complete}
-use Rattle.demands.specs.Ledger.{File, noFile, Block, closed, listing, reading, writing, Ledger, holdsOpen}
-use Rattle.demands.specs.Relation.{secsOf, writes, Keeps, Agrees}
+use Rattle.demands.specs.Ledger.{File, noFile, Block, closed, listing, reading, writing, Ledger, Fate, reply, gives, holdsOpen, activity, block, file, fate, secsOf}
+use Rattle.demands.specs.Relation.{writes, Keeps, Agrees, Reading}
 use Rattle.demands.specs.Searches.{live-at, uses-is}
-use Rattle.demands.specs.Survey.{ledgerOf, ledgerNumbers, ledgerOwners, sectorsAt, fileAt, files-at, listed-is, owners-is, file-is, ledger-free, ledger-slots, sane-back}
-use Rattle.demands.specs.Service.{flex, Call, Machine, run, log}
-use Rattle.demands.specs.History.{history, Told, unfinished, pending, shownFrom, shown, buffered, filesOn}
+use Rattle.demands.specs.Diskette.{ledgerOf, ledgerNumbers, ledgerOwners, sectorsAt, fileAt, ownersFrom, request}
+use Rattle.demands.specs.Survey.{files-at, listed-is, owners-is, file-is, ledger-free, ledger-slots, sane-back, length-files}
+use Rattle.demands.specs.Service.{flex, Call, Machine, run, log, answers, gave}
+use Rattle.demands.specs.History.{history, Told, unfinished, pending, shownFrom, shown, buffered, filesOn, concat, had, ahead}
 use Rattle.demands.specs.Demands.{Start, Sound, Demand3}
-use Rattle.demands.specs.Runs.{Fine, always, start-shape, start-list, start-fine}
+use Rattle.demands.specs.Runs.{Fine, always, start-shape, start-list, start-fine, step}
+use Rattle.demands.specs.Sent.{fate-zero, fits-one}
+use Rattle.demands.specs.Got.{Fetched, byte, over, fetched}
 use Rattle.demands.specs.Rests.{Rests, rests-same}
+use Rattle.chains.specs.Addresses.{absurd-bool}
+
+first-left : (p : ℕ) (c : List ℕ) → getD (drop p c) 0 0 ≡ getD c p 0
+first-left p c = getD-drop p c 0 0 ∙ ap (λ (i : ℕ). getD c i 0) (omega arith)
 
 -- ---- of a machine that agrees with a ledger
 
@@ -41,7 +49,7 @@ module _ (M S : ℕ) (z : Shape M S) (ds : List ℕ) (d : Listing S ds) (y : Mac
       let p = ledger-free M S z ds d (y .img) (y .tab) a r in
       let q = ledger-slots M S z ds d (y .img) (y .tab) a r in (
         listed-is S (y .img) ∙ ap₂ (λ (u : List ℕ) (v : List File). numbers S (u ++ flat secsOf v)) p q,
-        owners-is S (y .img) ∙ ap₂ (λ (u : List ℕ) (v : List File). replicate {A = ℕ} (length u) 0 ++ Rattle.demands.specs.Survey.ownersFrom 1 v) p q,
+        owners-is S (y .img) ∙ ap₂ (λ (u : List ℕ) (v : List File). replicate {A = ℕ} (length u) 0 ++ ownersFrom 1 v) p q,
       )
 
   -- the census accepts, and lists what the ledger has
@@ -66,8 +74,9 @@ module _ (M S : ℕ) (z : Shape M S) (ds : List ℕ) (d : Listing S ds) (y : Mac
       sane-here : lastTrack (y .img) ≡ M → perTrack (y .img) ≡ S → Sane (y .img) M S → Sane (y .img) (lastTrack (y .img)) (perTrack (y .img))
       sane-here m s w = rw (m, s) w
 
-  pub once-each : (k : ℕ) → k < M * S → Rattle.rules.specs.Census.tally k (ledgerNumbers S a) ≡ 1
-  once-each k h = tally-is k (ledgerNumbers S a) ∙ each-sound (M * S) (ledgerNumbers S a) (once-complete M S (a .free ++ flat secsOf (a .slots)) (r .once)) k h
+  pub once-each : (k : ℕ) → k < M * S → count k (ledgerNumbers S a) ≡ 1
+  once-each k h =
+      tally-is k (ledgerNumbers S a) ∙ each-sound (M * S) (ledgerNumbers S a) (once-complete M S (a .free ++ flat secsOf (a .slots)) (r .once)) k h
 
   pub no-others : length (ledgerNumbers S a) ≡ M * S
   no-others =
@@ -79,13 +88,14 @@ module _ (M S : ℕ) (z : Shape M S) (ds : List ℕ) (d : Listing S ds) (y : Mac
   -- what a block that writes has in its buffer is what the ledger says is unfinished
   held : (n s : ℕ) → s < length (slotsOf ds) → (b : Block) → Keeps S (slotsOf ds) (y .tab) n (a .slots) b → holdsOpen false s b ≡ true
       → pick (eqb (getD (y .tab) (320 * n + 34) 0) 0) [] (part (y .tab) (320 * n + 68) (getD (y .tab) (320 * n + 34) 0 - 4)) ≡ unfinished b
-  held n s hs closed k h = absurd (Rattle.chains.specs.Addresses.absurd-bool h refl)
-  held n s hs (listing p) k h = absurd (Rattle.chains.specs.Addresses.absurd-bool h refl)
-  held n s hs (reading t j i) k h = absurd (Rattle.chains.specs.Addresses.absurd-bool h refl)
+  held n s hs closed k h = absurd (absurd-bool h refl)
+  held n s hs (listing p) k h = absurd (absurd-bool h refl)
+  held n s hs (reading t j i) k h = absurd (absurd-bool h refl)
   held n s hs (writing t ub) k h = go (ℕ-discrete (length ub) 0)
     where
-      go : Dec (length ub ≡ 0) → pick (eqb (getD (y .tab) (320 * n + 34) 0) 0) [] (part (y .tab) (320 * n + 68) (getD (y .tab) (320 * n + 34) 0 - 4)) ≡ ub
-      go (yes e) = rw (k .idle e) (sym (Rattle.chains.specs.Chain.empty ub e))
+      go : Dec (length ub ≡ 0)
+          → pick (eqb (getD (y .tab) (320 * n + 34) 0) 0) [] (part (y .tab) (320 * n + 68) (getD (y .tab) (320 * n + 34) 0 - 4)) ≡ ub
+      go (yes e) = rw (k .idle e) (sym (empty ub e))
       go (no e) =
           let b = k .busy (omega arith) in
           rw (ne-eqb (getD (y .tab) (320 * n + 34) 0) 0 (omega (arith, b)))
@@ -119,7 +129,8 @@ module _ (M S : ℕ) (z : Shape M S) (ds : List ℕ) (d : Listing S ds) (y : Mac
       let nm : part (y .img) o 11 ≡ g .name = ap (λ (h : File). h .name) p0 in
       let bd : contents (y .img) (sectorsAt S (y .img) o) ≡ g .body = ap (λ (h : File). h .body) p0 in
       let bf : buffered (y .tab) o 8 ≡ pending (a .blocks) k 8 = q 0 (omega arith) ∙ ap (λ (x : ℕ). pending (a .blocks) x 8) (omega arith) in
-      let ih = shown-list os fs (k + 1) (omega arith) (λ i b. p (suc i) (omega arith)) (λ i b. q (suc i) (omega arith) ∙ ap (λ (x : ℕ). pending (a .blocks) x 8) (omega arith)) in
+      let ih =
+      shown-list os fs (k + 1) (omega arith) (λ i b. p (suc i) (omega arith)) (λ i b. q (suc i) (omega arith) ∙ ap (λ (x : ℕ). pending (a .blocks) x 8) (omega arith)) in
       rw (bd, bf, live-at (y .img) (g .name) o nm, nm, ih) refl
 
   pub files-shown : filesOn S (y .img) (y .tab) (slots (y .img) S) ≡ shown a
@@ -127,6 +138,40 @@ module _ (M S : ℕ) (z : Shape M S) (ds : List ℕ) (d : Listing S ds) (y : Mac
       ap (λ (x : List ℕ). filesOn S (y .img) (y .tab) (slotsOf x)) (directory-is M S z (y .img) ds d (r .dir) .1)
       ∙ shown-list (slotsOf ds) (a .slots) 0 (r .ns) (λ i b. file-is M S z ds d (y .img) (y .tab) a r i b)
       (λ i b. buffered-is i b 8 (omega arith) ∙ ap (λ (x : ℕ). pending (a .blocks) x 8) (omega arith))
+
+  -- ---- a block that reads
+
+  pub reader-next : (n b : ℕ) → n < 8 → activity (block a n) ≡ 1 → getD (y .tab) (320 * n + 0) 0 ≡ 0
+      → (answers flex y n b ≡ pick (eqb (length (ahead a (block a n))) 0) 8 0) × (gave flex y n b ≡ getD (ahead a (block a n)) 0 0)
+  reader-next n b hn e code = go (block a n) refl e
+    where
+      go : (o : Block) → block a n ≡ o → activity o ≡ 1
+          → (answers flex y n b ≡ pick (eqb (length (ahead a o)) 0) 8 0) × (gave flex y n b ≡ getD (ahead a o) 0 0)
+      go closed o e = absurd (omega arith)
+      go (listing p) o e = absurd (omega arith)
+      go (writing s ub) o e = absurd (omega arith)
+      go (reading s j i) o e =
+          let k : Reading S (slotsOf ds) (y .tab) n (getD (a .slots) s noFile) s j i =
+          subst (λ (v : Block). Keeps S (slotsOf ds) (y .tab) n (a .slots) v) o (r .keeps n hn) in
+          let φ = fate-zero M S a n (request (y .tab) n b) (reading s j i) code (k .drive) o fits-one in
+          let st = step M S z ds d y a f n b hn in
+          by s j i (fate M S a n (request (y .tab) n b)) (st .ans) (st .byte)
+          (subst (Fetched a n s (had j i) (concat ((file a s) .body))) (sym φ)
+          (fetched M S z ds d y a f n s (had j i) (concat ((file a s) .body)) hn (record { j = j; i = i; reader = o; pos = refl; bytes = refl }) (request (y .tab) n b)))
+        where
+          by : (s j i : ℕ) (ψ : Fate) → answers flex y n b ≡ reply ψ → gave flex y n b ≡ gives ψ
+              → Fetched a n s (had j i) (concat ((file a s) .body)) ψ
+              → (answers flex y n b ≡ pick (eqb (length (ahead a (reading s j i))) 0) 8 0) × (gave flex y n b ≡ getD (ahead a (reading s j i)) 0 0)
+          by s j i ψ an gv (byte v a′ h k u) =
+              let l = length-drop (had j i) (concat ((file a s) .body)) in (
+                an ∙ sym (ap (λ (w : Bool). pick w 8 0) (ne-eqb (length (drop (had j i) (concat ((file a s) .body)))) 0 (omega (arith, l)))),
+                gv ∙ k ∙ sym (first-left (had j i) (concat ((file a s) .body))),
+              )
+          by s j i ψ an gv (over h) =
+              let l = length-drop (had j i) (concat ((file a s) .body)) in (
+                an ∙ sym (ap (λ (w : Bool). pick w 8 0) (eq-eqb (length (drop (had j i) (concat ((file a s) .body)))) 0 (omega (arith, l)))),
+                gv ∙ sym (first-left (had j i) (concat ((file a s) .body)) ∙ List·getD-eq-default (concat ((file a s) .body)) 0 h),
+              )
 
 -- ---- the demand
 
@@ -148,7 +193,7 @@ module _ (x : Machine) (s : Start x) where
   at-rest i h v =
       record {
         is = files-at S (x .img) (slotsOf ds) i h;
-        low = omega (arith, Rattle.demands.specs.Survey.length-files S (x .img) (slotsOf ds));
+        low = omega (arith, length-files S (x .img) (slotsOf ds));
         alive = sym (live-at (x .img) (part (x .img) (getD (slotsOf ds) i 0) 11) (getD (slotsOf ds) i 0) refl) ∙ v;
         quiet = λ m hm w. omega (arith, w, ap writes (getD-replicate {A = Block} 8 m closed closed hm));
       }
@@ -177,6 +222,7 @@ module _ (x : Machine) (s : Start x) where
           each-once = once-each M S z ds d y h (f .0);
           no-more = no-others M S z ds d y h (f .0);
           files = files-shown M S z ds d y h (f .0);
+          readers = λ n b hn e c. reader-next M S z ds d y h (f .0) n b hn e c;
           places = same-slots;
           spared = λ i b v u.
               let q = rests-same M S z ds d cs x a (start-fine x s) i (fileAt S (x .img) (getD (slotsOf ds) i 0)) (at-rest i b v) u in

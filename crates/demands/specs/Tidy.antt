@@ -35,7 +35,8 @@ unfolding anyLive
 none-any img [] h = refl
 none-any img (o ∷ os) h = rw (h 0 (omega arith)) (none-any img os (λ i b. h (suc i) (omega arith)))
 
-pub holed-sound : (img os : List ℕ) → holed img os ≡ false → (i j : ℕ) → i < j → j < length os → neverUsed img (getD os i 0) ≡ true → live img (getD os j 0) ≡ false
+pub holed-sound : (img os : List ℕ) → holed img os ≡ false → (i j : ℕ) → i < j → j < length os → neverUsed img (getD os i 0) ≡ true
+    → live img (getD os j 0) ≡ false
 unfolding holed
 holed-sound img [] h i j a b e = absurd (omega arith)
 holed-sound img (o ∷ os) h zero zero a b e = absurd (omega arith)
@@ -45,7 +46,8 @@ holed-sound img (o ∷ os) h (suc i) zero a b e = absurd (omega arith)
 holed-sound img (o ∷ os) h (suc i) (suc j) a b e =
     holed-sound img os (pick-true (pick (neverUsed img o) (anyLive img os) false) _ h .1) i j (omega arith) (omega arith) e
 
-pub holed-complete : (img os : List ℕ) → ((i j : ℕ) → i < j → j < length os → neverUsed img (getD os i 0) ≡ true → live img (getD os j 0) ≡ false) → holed img os ≡ false
+pub holed-complete : (img os : List ℕ) → ((i j : ℕ) → i < j → j < length os → neverUsed img (getD os i 0) ≡ true → live img (getD os j 0) ≡ false)
+    → holed img os ≡ false
 unfolding holed
 holed-complete img [] h = refl
 holed-complete img (o ∷ os) h = rw (go (neverUsed img o) refl) (holed-complete img os (λ i j a b. h (suc i) (suc j) (omega arith) (omega arith)))
@@ -54,25 +56,31 @@ holed-complete img (o ∷ os) h = rw (go (neverUsed img o) refl) (holed-complete
     go false e = refl
     go true e = none-any img os (λ i b. h 0 (suc i) (omega arith) (omega arith) e)
 
-namesake-none : (img : List ℕ) (o : ℕ) (os : List ℕ) → namesake img o os ≡ false → (i : ℕ) → i < length os → live img (getD os i 0) ≡ true → part img o 11 ≢ part img (getD os i 0) 11
+namesake-none : (img : List ℕ) (o : ℕ) (os : List ℕ) → namesake img o os ≡ false → (i : ℕ) → i < length os → live img (getD os i 0) ≡ true
+    → part img o 11 ≢ part img (getD os i 0) 11
 unfolding namesake
 namesake-none img o [] h i b e q = omega arith
 namesake-none img o (p ∷ os) h zero b e q =
-    let t : same (part img o 11) (part img p 11) ≡ false = rw e at (pick-true (pick (live img p) (same (part img o 11) (part img p 11)) false) _ h .0) in
+    let t : same (part img o 11) (part img p 11) ≡ false =
+    rw e at (pick-true (pick (live img p) (same (part img o 11) (part img p 11)) false) _ h .0) in
     absurd-bool (ap (same (part img o 11)) (sym q) ∙ same-refl (part img o 11)) t
-namesake-none img o (p ∷ os) h (suc i) b e q = namesake-none img o os (pick-true (pick (live img p) (same (part img o 11) (part img p 11)) false) _ h .1) i (omega arith) e q
+namesake-none img o (p ∷ os) h (suc i) b e q =
+    namesake-none img o os (pick-true (pick (live img p) (same (part img o 11) (part img p 11)) false) _ h .1) i (omega arith) e q
 
-none-namesake : (img : List ℕ) (o : ℕ) (os : List ℕ) → ((i : ℕ) → i < length os → live img (getD os i 0) ≡ true → part img o 11 ≢ part img (getD os i 0) 11) → namesake img o os ≡ false
+none-namesake : (img : List ℕ) (o : ℕ) (os : List ℕ)
+    → ((i : ℕ) → i < length os → live img (getD os i 0) ≡ true → part img o 11 ≢ part img (getD os i 0) 11) → namesake img o os ≡ false
 unfolding namesake
 none-namesake img o [] h = refl
-none-namesake img o (p ∷ os) h = rw (go (live img p) refl (same (part img o 11) (part img p 11)) refl) (none-namesake img o os (λ i b. h (suc i) (omega arith)))
+none-namesake img o (p ∷ os) h =
+    rw (go (live img p) refl (same (part img o 11) (part img p 11)) refl) (none-namesake img o os (λ i b. h (suc i) (omega arith)))
   where
     go : (u : Bool) → live img p ≡ u → (v : Bool) → same (part img o 11) (part img p 11) ≡ v → pick u v false ≡ false
     go false e v f = refl
     go true e false f = refl
     go true e true f = absurd (h 0 (omega arith) e (same-eq (part img o 11) (part img p 11) f))
 
-pub twins-sound : (img os : List ℕ) → twins img os ≡ false → (i j : ℕ) → i < j → j < length os → live img (getD os i 0) ≡ true → live img (getD os j 0) ≡ true
+pub twins-sound : (img os : List ℕ) → twins img os ≡ false → (i j : ℕ) → i < j → j < length os → live img (getD os i 0) ≡ true
+    → live img (getD os j 0) ≡ true
     → part img (getD os i 0) 11 ≢ part img (getD os j 0) 11
 unfolding twins
 twins-sound img [] h i j a b e f = absurd (omega arith)
@@ -101,7 +109,8 @@ nameOf fs i = (getD fs i noFile) .name
 pub record Tidy (fs : List File) : Type 0 where
   pub long : (i : ℕ) → i < length fs → length (nameOf fs i) ≡ 11
   pub solid : (i j : ℕ) → i < j → j < length fs → neverUsed (nameOf fs i) 0 ≡ true → live (nameOf fs j) 0 ≡ false
-  pub apart : (i j : ℕ) → i ≢ j → i < length fs → j < length fs → live (nameOf fs i) 0 ≡ true → live (nameOf fs j) 0 ≡ true → nameOf fs i ≢ nameOf fs j
+  pub apart : (i j : ℕ) → i ≢ j → i < length fs → j < length fs → live (nameOf fs i) 0 ≡ true → live (nameOf fs j) 0 ≡ true
+      → nameOf fs i ≢ nameOf fs j
 
 pub live-used : (x : List ℕ) → live x 0 ≡ true → neverUsed x 0 ≡ false
 unfolding live
@@ -133,7 +142,8 @@ module _ (fs : List File) (t : Tidy fs) (s : ℕ) (f : File) (hs : s < length fs
       lo i (yes e) h = rw (is i e) long
       lo i (no e) h = rw (other i e) (t .long i h)
 
-      so : (i j : ℕ) → Dec (i ≡ s) → Dec (j ≡ s) → i < j → j < length fs → neverUsed (nameOf (set fs s f) i) 0 ≡ true → live (nameOf (set fs s f) j) 0 ≡ false
+      so : (i j : ℕ) → Dec (i ≡ s) → Dec (j ≡ s) → i < j → j < length fs → neverUsed (nameOf (set fs s f) i) 0 ≡ true
+          → live (nameOf (set fs s f) j) 0 ≡ false
       so i j (yes e) q a b z = absurd-bool z (ap (λ (x : List ℕ). neverUsed x 0) (is i e) ∙ used)
       so i j (no e) (no q) a b z = rw (other j q) (t .solid i j a b (ap (λ (x : List ℕ). neverUsed x 0) (sym (other i e)) ∙ z))
       so i j (no e) (yes q) a b z = rw (is j q) (go (live (f .name) 0) refl)
@@ -142,7 +152,8 @@ module _ (fs : List File) (t : Tidy fs) (s : ℕ) (f : File) (hs : s < length fs
           go false v = v
           go true v = absurd-bool (ap (λ (x : List ℕ). neverUsed x 0) (sym (other i e)) ∙ z) (before v i (omega arith))
 
-      ap′ : (i j : ℕ) → Dec (i ≡ s) → Dec (j ≡ s) → i ≢ j → i < length fs → j < length fs → live (nameOf (set fs s f) i) 0 ≡ true → live (nameOf (set fs s f) j) 0 ≡ true
+      ap′ : (i j : ℕ) → Dec (i ≡ s) → Dec (j ≡ s) → i ≢ j → i < length fs → j < length fs → live (nameOf (set fs s f) i) 0 ≡ true
+          → live (nameOf (set fs s f) j) 0 ≡ true
           → nameOf (set fs s f) i ≢ nameOf (set fs s f) j
       ap′ i j (yes e) (yes q) ne a b u v w = ne (e ∙ sym q)
       ap′ i j (yes e) (no q) ne a b u v w =
@@ -189,7 +200,8 @@ seek-none nm (f ∷ fs) lo so h (suc j) b l e =
     go Stop q h ih = absurd-bool l (so 0 (suc j) (omega arith) b (named-stop (f .name) nm q))
     go Pass q h ih = ih (later-none (fileNamed nm fs) h)
 
-pub found-none : (nm : List ℕ) (fs : List File) → Tidy fs → fileNamed nm fs ≡ nowhere → (j : ℕ) → j < length fs → live (nameOf fs j) 0 ≡ true → nameOf fs j ≢ nm
+pub found-none : (nm : List ℕ) (fs : List File) → Tidy fs → fileNamed nm fs ≡ nowhere → (j : ℕ) → j < length fs → live (nameOf fs j) 0 ≡ true
+    → nameOf fs j ≢ nm
 found-none nm fs t = seek-none nm fs (t .long) (t .solid)
 
 -- a live slot is found by its name
@@ -207,7 +219,7 @@ found-there fs t s hs l = go (fileNamed (nameOf fs s) fs) refl
         same-slot (yes d) = d
         same-slot (no d) =
             let m = named-hit (nameOf fs i) (nameOf fs s) (q .hit) in
-            absurd (t .apart i s d (q .low) hs (m .live) l (sym (part-all (nameOf fs i) 11 (t .long i (q .low))) ∙ m .same))
+            absurd (t .apart i s d (q .low) hs (m .alive) l (sym (part-all (nameOf fs i) 11 (t .long i (q .low))) ∙ m .same))
 
 vacant-pick : (x : List ℕ) → vacant x 0 ≡ pick (live x 0) Pass Hit
 unfolding vacant
@@ -217,9 +229,11 @@ vacant-pick x = refl
 pub room-before : (fs : List File) (s : ℕ) → vacantSlot fs ≡ slot s → (i : ℕ) → i < s → live (nameOf fs i) 0 ≡ true
 unfolding seek
 room-before [] s h i b = absurd (slot-not s (sym h))
-room-before (f ∷ fs) s h i b = go (live (f .name) 0) refl (vacantSlot fs) refl (rw (vacant-pick (f .name)) at h) i refl (λ t k j c. room-before fs t k j c)
+room-before (f ∷ fs) s h i b =
+    go (live (f .name) 0) refl (vacantSlot fs) refl (rw (vacant-pick (f .name)) at h) i refl (λ t k j c. room-before fs t k j c)
   where
-    go : (u : Bool) → live (f .name) 0 ≡ u → (x : Sought) → vacantSlot fs ≡ x → onSeen (pick u Pass Hit) (slot 0) nowhere (later x) ≡ slot s → (e : ℕ) → i ≡ e
+    go : (u : Bool) → live (f .name) 0 ≡ u → (x : Sought) → vacantSlot fs ≡ x → onSeen (pick u Pass Hit) (slot 0) nowhere (later x) ≡ slot s → (e : ℕ)
+        → i ≡ e
         → ((t : ℕ) → vacantSlot fs ≡ slot t → (j : ℕ) → j < t → live (nameOf fs j) 0 ≡ true) → live (nameOf (f ∷ fs) e) 0 ≡ true
     go false u x y h e q ih = let z : 0 ≡ s = slot-same 0 s h in absurd (omega arith)
     go true u nowhere y h e q ih = absurd (slot-not s (sym h))

@@ -1,15 +1,15 @@
 -- Each way through the functions of this crate, and each turn and way out of their loops. In a loop's laws w is the answer.
-use mathlib.Core.Path.{_≡_, refl, sym, ap, _∙_}
+use mathlib.Core.Path.{_≡_, refl, ap, _∙_}
 use mathlib.Core.Bool.{Bool, true, false}
-use mathlib.Core.List.{List, [], _∷_, _++_}
-use Prim.Native.Nat.{ℕ, zero, suc, _+_, _-_, _*_, _/_, _%_, _≤_, _<_}
+use mathlib.Core.List.{List, []}
+use Prim.Native.Nat.{ℕ, _+_, _-_, _*_, _/_, _%_, _≤_, _<_}
 use native.Mathlib.Omega.{arith}
 use lib.ListN.{getD}
 use lib.Dec.{leb}
 use borrow.Author.Tests.{le-leb, lt-leb, lt-ltb, le-ltb, eq-eqb, ne-eqb}
-use Rattle.rules.specs.Bytes.{pick, within, part, same}
+use Rattle.rules.specs.Bytes.{within, part, same}
 use Rattle.rules.specs.Image.{trackOf, sectorOf, index, linkOf}
-use Rattle.rules.specs.Directory.{isDirectory, stepTo, nextOf, onNext, mostOfDirectory, ends, directoryRight, sectorsFrom, directory, slotsAt, firstSlotOf, slotsOf, slots, neverUsed, deleted, live, onSeen, scan, searchStops, named, vacant, lookupOf, inDirectory, find, vacancy, member, isDisplacement, placed, slotBehind}
+use Rattle.rules.specs.Directory.{isDirectory, stepTo, nextOf, onNext, mostOfDirectory, ends, directoryRight, sectorsFrom, directory, slotsAt, firstSlotOf, slotsOf, slots, neverUsed, deleted, live, scan, searchStops, named, vacant, lookupOf, find, vacancy, member, isDisplacement, placed, slotBehind}
 use Rattle.rules.specs.declared.Next.{Next}
 use Rattle.rules.specs.declared.Next.the-variants.{End, To, Astray}
 use Rattle.rules.specs.declared.Seen.{Seen}
@@ -18,9 +18,10 @@ use Rattle.rules.specs.declared.Found.{Found}
 use Rattle.rules.specs.declared.Found.the-variants.{Slot, Stopped, Further}
 use Rattle.rules.specs.declared.Lookup.{Lookup}
 use Rattle.rules.specs.declared.Lookup.the-variants.{At, Missing, Broken}
-use Rattle.laws.specs.Bytes.{same-no, same-on, same-end}
-use Rattle.laws.specs.Walk.{ends-more, ends-none, sectors-more, sectors-none, slots-more, slots-none, onFound, scan-append}
-use Rattle.directory.specs.Sought.{looked, sought, behind}
+use Rattle.laws.specs.Bytes.{same-no, same-on}
+use Rattle.laws.specs.Walk.{ends-more, ends-none, sectors-more, sectors-none, slots-more, slots-none}
+use Rattle.laws.specs.Slots.{further, scan-append}
+use Rattle.directory.specs.Sought.{looked, sought}
 
 -- ---- links
 
@@ -148,7 +149,7 @@ scan-out look o n v h = rw (v, slots-none o n h) refl
 
 module _ (look : ℕ → Seen) (img : List ℕ) (S n k : ℕ) {w a : Found} (v : w ≡ scan look (slotsOf (sectorsFrom img S n k))) (h : 0 < n)
     (e : a ≡ scan look (slotsAt (firstSlotOf k) 10)) where
-  all-more : w ≡ onFound a (scan look (slotsOf (onNext (nextOf img S k) [] [] (λ j. sectorsFrom img S (n - 1) j))))
+  all-more : w ≡ further a (scan look (slotsOf (onNext (nextOf img S k) [] [] (λ j. sectorsFrom img S (n - 1) j))))
   unfolding slotsOf
   all-more = rw (v, sectors-more img S n k h, scan-append, ← e) refl
 
@@ -270,16 +271,3 @@ module _ (img : List ℕ) (S slot : ℕ) {a : Next} (h : 232 ≤ slot % 256) (e 
   pub behind-to : {k : ℕ} → a ≡ To k → At (256 * k + 16) ≡ slotBehind img S slot
   unfolding slotBehind
   behind-to j = rw (le-ltb (slot % 256) 232 h, ← e, j) refl
-
-module _ (img : List ℕ) (S a d : ℕ) {p : Lookup} (e : p ≡ placed img S a d) where
-  pub behind-at : {slot : ℕ} {o : Lookup} → p ≡ At slot → o ≡ slotBehind img S slot → o ≡ behind img S a d
-  unfolding behind
-  behind-at j q = rw (← e, j) q
-
-  pub behind-missing : p ≡ Missing → Broken ≡ behind img S a d
-  unfolding behind
-  behind-missing j = rw (← e, j) refl
-
-  pub behind-broken : p ≡ Broken → Broken ≡ behind img S a d
-  unfolding behind
-  behind-broken j = rw (← e, j) refl

@@ -4,7 +4,6 @@ use Prim.Native.Nat.{ℕ}
 use Rattle.rules.specs.Bytes.{part, over, same}
 use Rattle.rules.specs.Directory.{nextOf, mostOfDirectory, directoryRight, live, find, vacancy, placed, placeOf, slotBehind}
 use Rattle.laws.specs.Single.{Single, single}
-use Rattle.directory.specs.Sought.{behind}
 
 pub next-of-single : (img : List ℕ) (S k : ℕ) → Single (nextOf img S k)
 next-of-single img S k = single (nextOf img S k)
@@ -32,9 +31,6 @@ placed-single img S a d = single (placed img S a d)
 
 pub slot-behind-single : (img : List ℕ) (S slot : ℕ) → Single (slotBehind img S slot)
 slot-behind-single img S slot = single (slotBehind img S slot)
-
-pub behind-single : (img : List ℕ) (S a d : ℕ) → Single (behind img S a d)
-behind-single img S a d = single (behind img S a d)
 
 pub put-place-single : (tab : List ℕ) (at slot : ℕ) → Single (over tab at (placeOf slot))
 put-place-single tab at slot = single (over tab at (placeOf slot))

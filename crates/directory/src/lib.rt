@@ -4,7 +4,7 @@ ghost use mathlib.Core.Path.{_≡_};
 ghost use Prim.Native.Nat.{_+_, _*_, _<_};
 ghost use Rattle.rules.specs.Bytes.{part, over, same};
 ghost use Rattle.rules.specs.Directory.{isDirectory, stepTo, nextOf, mostOfDirectory, directoryRight, directory, slotsAt, firstSlotOf, slots, live, scan, lookupOf, find, vacancy, member, isDisplacement, placed, placeOf, slotBehind};
-ghost use Rattle.directory.specs.Sought.{looked, sought, behind};
+ghost use Rattle.directory.specs.Sought.{looked, sought};
 use cells::get;
 use cells::get_in;
 use cells::get2;
@@ -283,18 +283,6 @@ pub fn slot_behind(image: &[u8], per: u8, slot: u32) -> Lookup
         Next::End => Lookup::Missing,
         Next::Astray => Lookup::Broken,
         Next::To(k) => Lookup::At(256 * k as u32 + 16),
-    }
-}
-
-// The slot behind the one at an address and a displacement, which must be a slot of the directory.
-pub fn behind(image: &[u8], per: u8, a: u16, d: u8) -> Lookup
-    ensures { λ r. ⌜ r ≡ behind (now (image .entry)) per a d ⌝ }
-{
-    let here = placed(image, per, a, d);
-    match here {
-        Lookup::At(slot) => slot_behind(image, per, slot),
-        Lookup::Missing => Lookup::Broken,
-        Lookup::Broken => Lookup::Broken,
     }
 }
 

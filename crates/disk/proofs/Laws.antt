@@ -8,13 +8,11 @@ use native.Mathlib.Omega.{arith}
 use lib.ListN.{length, getD}
 use lib.Dec.{eqb}
 use borrow.Author.Tests.{le-leb, lt-leb}
-use Rattle.rules.specs.Bytes.{pick, within, over, two}
+use Rattle.rules.specs.Bytes.{within, over, two}
 use Rattle.rules.specs.Stores.{stored}
 use Rattle.rules.specs.Image.{shapeRight}
 use Rattle.rules.specs.Transfer.{linked}
 use Rattle.disk.specs.Loaded.{isShape, shapeOf}
-use Rattle.disk.specs.declared.Shape.{Shape}
-use Rattle.disk.specs.declared.Shaped.{Shaped}
 use Rattle.disk.specs.declared.Shaped.the-variants.{Right, Wrong}
 
 pub product : (x y : ℕ) → x ≤ 256 → y ≤ 255 → x * y ≤ 65280

@@ -1,11 +1,10 @@
 -- The shape of an image and its free chain, as the structs that the code loads.
-use mathlib.Core.Bool.{Bool, true, false}
+use mathlib.Core.Bool.{Bool, false}
 use mathlib.Core.List.{List}
 use Prim.Native.Nat.{ℕ, _+_, _*_}
 use lib.Dec.{eqb, leb}
 use Rattle.rules.specs.Bytes.{pick, within}
 use Rattle.rules.specs.Image.{mostTracks, mostSectors, lastTrack, perTrack, shapeRight, firstFree, lastFree, freeCount}
-use Rattle.disk.specs.declared.Shape.{Shape}
 use Rattle.disk.specs.declared.Shaped.{Shaped}
 use Rattle.disk.specs.declared.Shaped.the-variants.{Right, Wrong}
 use Rattle.disk.specs.declared.Free.{Free}

@@ -1,10 +1,13 @@
--- Bytes read one by one are a part.
-use mathlib.Core.Path.{_≡_}
+-- Bytes read one by one are a part; what a slot's attributes say.
+use mathlib.Core.Path.{_≡_, refl}
 use mathlib.Core.List.{List, [], _∷_}
-use Prim.Native.Nat.{ℕ, _+_}
+use Prim.Native.Nat.{ℕ, _+_, _/_, _%_}
 use native.Mathlib.Nat.{add-assoc}
 use lib.ListN.{getD}
+use lib.Dec.{eqb}
 use Rattle.rules.specs.Bytes.{part}
+use Rattle.rules.specs.Directory.{attributesAt}
+use Rattle.rules.specs.Files.{writeProtected, deleteProtected}
 
 three : (m : List ℕ) (at : ℕ) → getD m at 0 ∷ getD m (at + 1) 0 ∷ getD m (at + 2) 0 ∷ [] ≡ part m at 3
 unfolding part
@@ -24,3 +27,11 @@ module _ (m : List ℕ) (at : ℕ) {a b c : ℕ} (p : a ≡ getD m at 0) (q : b 
       → h ≡ getD m (at + 7) 0 → i ≡ getD m (at + 8) 0 → j ≡ getD m (at + 9) 0 → k ≡ getD m (at + 10) 0
       → a ∷ b ∷ c ∷ d ∷ e ∷ f ∷ g ∷ h ∷ i ∷ j ∷ k ∷ [] ≡ part m at 11
   eleven-read s t u v w x y z = rw (p, q, r, s, t, u, v, w, x, y, z) (eleven m at)
+
+pub write-bit : (img : List ℕ) (slot : ℕ) {a : ℕ} → a ≡ getD img (slot + 11) 0 → eqb (a / 128 % 2) 1 ≡ writeProtected (attributesAt img slot)
+unfolding writeProtected
+write-bit img slot e = rw e refl
+
+pub delete-bit : (img : List ℕ) (slot : ℕ) {a : ℕ} → a ≡ getD img (slot + 11) 0 → eqb (a / 64 % 2) 1 ≡ deleteProtected (attributesAt img slot)
+unfolding deleteProtected
+delete-bit img slot e = rw e refl

@@ -1,11 +1,11 @@
 -- A directory entry as the struct that the code holds by value, and as its 24 bytes. What is stored is read back, and what is read
 -- stored again.
 use mathlib.Core.Path.{_≡_, refl, sym, ap, _∙_}
-use mathlib.Core.List.{List, [], _∷_, _++_}
+use mathlib.Core.List.{List, _∷_, _++_}
 use Prim.Native.Nat.{ℕ, _+_, _*_, _/_, _%_, _≤_, _<_}
 use native.Mathlib.Nat.{add-assoc}
 use native.Mathlib.Omega.{arith}
-use lib.ListN.{length, getD}
+use lib.ListN.{length}
 use Rattle.rules.specs.Bytes.{byteAt, wordAt, part, over, two, zeros}
 use Rattle.rules.specs.Directory.{attributesAt, startAt, endAt, sizeAt}
 use Rattle.rules.specs.Block.{nameIn, dateIn}

@@ -2,6 +2,8 @@
 use mathlib.Core.List.{List}
 use Prim.Native.Nat.{ℕ}
 use Rattle.rules.specs.Bytes.{part, over}
+use Rattle.rules.specs.Directory.{attributesAt}
+use Rattle.rules.specs.Files.{writeProtected, deleteProtected}
 use Rattle.laws.specs.Single.{Single, single}
 use Rattle.entries.specs.Entries.{entryOf, newOf, bytesOf}
 use Rattle.entries.specs.declared.Entry.{Entry}
@@ -11,6 +13,12 @@ name-at-single m at = single (part m at 11)
 
 pub entry-at-single : (img : List ℕ) (slot : ℕ) → Single (entryOf img slot)
 entry-at-single img slot = single (entryOf img slot)
+
+pub is-write-protected-single : (img : List ℕ) (slot : ℕ) → Single (writeProtected (attributesAt img slot))
+is-write-protected-single img slot = single (writeProtected (attributesAt img slot))
+
+pub is-delete-protected-single : (img : List ℕ) (slot : ℕ) → Single (deleteProtected (attributesAt img slot))
+is-delete-protected-single img slot = single (deleteProtected (attributesAt img slot))
 
 pub new-entry-single : (tab : List ℕ) (f : ℕ) → Single (newOf tab f)
 new-entry-single tab f = single (newOf tab f)

@@ -1,6 +1,8 @@
 // A directory entry by value: loaded from a slot, made for a new file, stored.
 ghost use mathlib.Core.Path.{_≡_};
 ghost use Rattle.rules.specs.Bytes.{part, over};
+ghost use Rattle.rules.specs.Directory.{attributesAt};
+ghost use Rattle.rules.specs.Files.{writeProtected, deleteProtected};
 ghost use Rattle.entries.specs.Entries.{entryOf, newOf, bytesOf};
 use cells::get;
 use cells::get_in;
@@ -68,6 +70,22 @@ pub fn entry_at(image: &[u8], slot: u32) -> Entry
         byte20: get(image, at + 20),
         date,
     }
+}
+
+// Does the slot say that the file may not be changed?
+pub fn is_write_protected(image: &[u8], slot: u32) -> bool
+    ensures { λ r. ⌜ r ≡ writeProtected (attributesAt (now (image .entry)) slot) ⌝ }
+{
+    let attributes = get(image, slot as usize + 11);
+    attributes / 128 % 2 == 1
+}
+
+// Does it say that the file may not be deleted?
+pub fn is_delete_protected(image: &[u8], slot: u32) -> bool
+    ensures { λ r. ⌜ r ≡ deleteProtected (attributesAt (now (image .entry)) slot) ⌝ }
+{
+    let attributes = get(image, slot as usize + 11);
+    attributes / 64 % 2 == 1
 }
 
 // The entry of a new file: the name and the date of the block that begins at f, all else 0.

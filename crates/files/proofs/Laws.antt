@@ -1,35 +1,23 @@
 -- Ways through the functions of this crate that the general laws of tests (laws.Settled) do not cover: what each leaves where no
 -- test refuses it, and tests on what was loaded before. Of what the code has, r is an answer, v a test's result, i an image, t a table.
-use mathlib.Core.Path.{_≡_, refl, sym, ap, _∙_}
+use mathlib.Core.Path.{_≡_, refl}
 use mathlib.Core.Bool.{Bool, true, false}
-use mathlib.Core.List.{List, [], _∷_, _++_}
-use Prim.Native.Nat.{ℕ, _+_, _*_, _/_, _%_, _≤_, _<_}
-use native.Mathlib.Omega.{arith}
-use lib.ListN.{getD, length}
-use lib.Dec.{eqb, ltb}
-use borrow.Author.Tests.{ltb-false, ne-eqb, lt-ltb, le-ltb}
-use Rattle.rules.specs.Bytes.{pick, wordAt, part, over, one, six, zeros, same}
-use Rattle.rules.specs.Stores.{stored, put, puts}
-use Rattle.rules.specs.Image.{index, isSector, isData}
-use Rattle.rules.specs.Directory.{placed, placeOf, slotBehind, attributesAt}
-use Rattle.rules.specs.Outcome.{Outcome, refuse, done, unless, when, onSlot, Out, out, settled, left}
+use mathlib.Core.List.{List}
+use Prim.Native.Nat.{ℕ, _+_, _*_}
+use lib.ListN.{getD}
+use borrow.Author.Tests.{ne-eqb}
+use Rattle.rules.specs.Bytes.{wordAt, part, over, one, zeros, same}
+use Rattle.rules.specs.Stores.{puts}
+use Rattle.rules.specs.Image.{index, isSector}
+use Rattle.rules.specs.Directory.{placed, placeOf}
+use Rattle.rules.specs.Outcome.{Out, out, settled, left}
 use Rattle.rules.specs.Block.{inUse}
-use Rattle.rules.specs.Transfer.{linked, mark}
-use Rattle.rules.specs.Files.{opened, newEntry, shown, nextSlot, readSector, writeProtected, deleteProtected, hangStores, gone, remove}
+use Rattle.rules.specs.Files.{opened, nextSlot, readSector}
 use Rattle.rules.specs.declared.Lookup.{Lookup}
-use Rattle.rules.specs.declared.Lookup.the-variants.{At, Missing, Broken}
-use Rattle.laws.specs.Bytes.{over-append}
-use Rattle.laws.specs.Stores.{stored-append}
-use Rattle.disk.specs.Loaded.{freeOf}
-use Rattle.disk.specs.declared.Free.{Free}
-use Rattle.directory.specs.Sought.{onPlaced, behind}
-use Rattle.entries.specs.Entries.{entryOf, newOf, bytesOf, new-bytes}
+use Rattle.laws.specs.Walk.{slot-begins}
+use Rattle.entries.specs.Entries.{newOf, bytesOf, new-bytes}
 use Rattle.entries.specs.declared.Entry.{Entry}
-use Rattle.files.specs.Parts.{opening, openReadAt, openWriteAt, firstSlot, furtherSlot, isEnd, mayHang, renamed}
-
--- a slot's sector and offset are where it begins
-split : (slot : ℕ) → 256 * (slot / 256) + slot % 256 ≡ slot
-split slot = omega arith
+use Rattle.files.specs.Parts.{opening, openReadAt, openWriteAt, firstSlot, slotAfter, furtherSlot, renamed}
 
 -- ---- open
 
@@ -41,7 +29,7 @@ read-opened img tab f slot e h p q = rw (← e, h, q, p) refl
 pub write-opened : (img tab : List ℕ) (f slot : ℕ) {entry : Entry} {i t t′ : List ℕ} → entry ≡ newOf tab f → i ≡ over img slot (bytesOf entry)
     → t ≡ over tab (f + 4) (bytesOf entry) → t′ ≡ puts t f (opening 2 slot) → out 0 0 i t′ ≡ left img tab f (settled (openWriteAt tab f slot))
 unfolding openWriteAt opened opening
-write-opened img tab f slot e p q d = rw (d, q, p, e, new-bytes, split) refl
+write-opened img tab f slot e p q d = rw (d, q, p, e, new-bytes, slot-begins) refl
 
 -- ---- next slot
 
@@ -64,16 +52,10 @@ module _ (tab : List ℕ) (p : ℕ) {a : ℕ} (e : a ≡ getD tab p 0) where
       unfolding part zeros same
       none-set j = rw (← e, h, ← d, k, ← g, j) refl
 
--- the slot behind, by the numbers that were loaded
-pub behind-loaded : (img tab : List ℕ) (S p q : ℕ) {v : Lookup} {a d : ℕ} → a ≡ wordAt tab p → d ≡ getD tab q 0 → v ≡ behind img S a d
-    → v ≡ behind img S (wordAt tab p) (getD tab q 0)
-behind-loaded img tab S p q e g h = rw (← e, ← g) h
-
-further : (l : Lookup) (g : ℕ → Lookup) (next : ℕ → Outcome)
-    → onSlot (onPlaced l g) 5 8 next ≡ onSlot l 5 5 (λ slot. onSlot (g slot) 5 8 next)
-further (At slot) g next = refl
-further Missing g next = refl
-further Broken g next = refl
+-- the slot of a place, by the numbers that were loaded
+pub placed-loaded : (img tab : List ℕ) (S p q : ℕ) {v : Lookup} {a d : ℕ} → a ≡ wordAt tab p → d ≡ getD tab q 0 → v ≡ placed img S a d
+    → v ≡ placed img S (wordAt tab p) (getD tab q 0)
+placed-loaded img tab S p q e g h = rw (← e, ← g) h
 
 module _ (img tab : List ℕ) (S f : ℕ) {v : Bool} {o : Out} (e : v ≡ same (part tab (f + 47) 3) (zeros 3)) where
   pub next-first : v ≡ true → o ≡ left img tab f (settled (firstSlot img S)) → o ≡ left img tab f (settled (nextSlot img tab S f))
@@ -81,9 +63,8 @@ module _ (img tab : List ℕ) (S f : ℕ) {v : Bool} {o : Out} (e : v ≡ same (
   next-first h q = rw (← e, h) q
 
   pub next-further : v ≡ false → o ≡ left img tab f (settled (furtherSlot img tab S f)) → o ≡ left img tab f (settled (nextSlot img tab S f))
-  unfolding nextSlot furtherSlot behind
-  next-further h q =
-      rw (← e, h, ← further (placed img S (wordAt tab (f + 47)) (getD tab (f + 49) 0)) (slotBehind img S) (shown img)) q
+  unfolding nextSlot furtherSlot slotAfter
+  next-further h q = rw (← e, h) q
 
 -- ---- read sector
 
@@ -97,103 +78,9 @@ module _ (img tab : List ℕ) (M S f : ℕ) {v : Bool} {a : ℕ} (e : a ≡ word
   unfolding readSector
   sector-read h q p d = rw (← e, ← g, h, d, p, q) refl
 
--- ---- delete
-
-pub write-bit : (img : List ℕ) (slot : ℕ) {a : ℕ} → a ≡ getD img (slot + 11) 0 → eqb (a / 128 % 2) 1 ≡ writeProtected (attributesAt img slot)
-unfolding writeProtected
-write-bit img slot e = rw e refl
-
-pub delete-bit : (img : List ℕ) (slot : ℕ) {a : ℕ} → a ≡ getD img (slot + 11) 0 → eqb (a / 64 % 2) 1 ≡ deleteProtected (attributesAt img slot)
-unfolding deleteProtected
-delete-bit img slot e = rw e refl
-
-pub marked : (img : List ℕ) (slot : ℕ) {i : List ℕ} → i ≡ over img slot (one 255) → i ≡ stored img (mark slot)
-unfolding mark
-marked img slot e = rw (split, e) refl
-
-pub marked-shown : (img tab : List ℕ) (f slot : ℕ) {t t′ t″ : List ℕ} → t ≡ over tab (f + 4) (one 255) → t′ ≡ over t (f + 4 + 1) (part img (slot + 1) 23)
-    → t″ ≡ over t′ (f + 1) (one 0) → t″ ≡ puts tab f (gone img slot ++ put 1 (one 0) ∷ [])
-unfolding gone one
-marked-shown img tab f slot p q d = rw (d, q, p, over-append tab (f + 4) (one 255) (part img (slot + 1) 23)) refl
-
-module _ (M S : ℕ) (entry : Entry) (free : Free) {v : Bool} (e : v ≡ isData M S (entry .start)) where
-  pub start-bad : v ≡ false → false ≡ mayHang M S entry free
-  unfolding mayHang
-  start-bad h = rw (← e, h) refl
-
-  module _ (h : v ≡ true) {w : Bool} (g : w ≡ isData M S (entry .end)) where
-    pub end-bad : w ≡ false → false ≡ mayHang M S entry free
-    unfolding mayHang
-    end-bad k = rw (← e, h, ← g, k) refl
-
-    module _ (k : w ≡ true) {u : Bool} (d : u ≡ isEnd M S free) where
-      pub tail-bad : u ≡ false → false ≡ mayHang M S entry free
-      unfolding mayHang
-      tail-bad j = rw (← e, h, ← g, k, ← d, j) refl
-
-      module _ (j : u ≡ true) where
-        pub sum-bad : 65535 < free .count + entry .size → false ≡ mayHang M S entry free
-        unfolding mayHang
-        sum-bad n = rw (← e, h, ← g, k, ← d, j, lt-ltb 65535 (free .count + entry .size) n) refl
-
-        pub all-good : free .count + entry .size ≤ 65535 → true ≡ mayHang M S entry free
-        unfolding mayHang
-        all-good n = rw (← e, h, ← g, k, ← d, j, le-ltb 65535 (free .count + entry .size) n) refl
-
-sum-fits : (a b c d : Bool) (n : ℕ) → ltb 65535 n ≡ d → true ≡ pick a (pick b (pick c (pick d false true) false) false) false → n ≤ 65535
-sum-fits true true true false n e h = ltb-false 65535 n e
-sum-fits true true true true n e h = let z : _≡_ {A = ℕ} 0 1 = cc in omega arith
-sum-fits true true false d n e h = let z : _≡_ {A = ℕ} 0 1 = cc in omega arith
-sum-fits true false c d n e h = let z : _≡_ {A = ℕ} 0 1 = cc in omega arith
-sum-fits false b c d n e h = let z : _≡_ {A = ℕ} 0 1 = cc in omega arith
-
-pub hang-fits : (M S : ℕ) (entry : Entry) (free : Free) {v : Bool} → v ≡ mayHang M S entry free → v ≡ true → free .count + entry .size ≤ 65535
-unfolding mayHang
-hang-fits M S entry free e h =
-    sum-fits (isData M S (entry .start)) (isData M S (entry .end)) (isEnd M S free) (ltb 65535 (free .count + entry .size)) (free .count + entry .size)
-    refl (sym h ∙ e)
-
-pub hung : (img : List ℕ) (S slot : ℕ) (entry : Entry) (free : Free) {k head : ℕ} {i i′ i″ : List ℕ} → k ≡ index S (free .last)
-    → head ≡ pick (eqb (free .count) 0) (entry .start) (free .first) → i ≡ stored img (linked (eqb (free .count) 0) k (entry .start))
-    → i′ ≡ over i 541 (six head (entry .end) (free .count + entry .size)) → i″ ≡ stored i′ (mark slot)
-    → i″ ≡ stored img (hangStores S slot (free .count) (free .first) (free .last) (entry .start) (entry .end) (entry .size))
-unfolding hangStores
-hung img S slot entry free a b p q d = rw (stored-append, d, q, p, a, b) refl
-
--- four tests with one number are one
-gathered : (a b c d : Bool) (o : Outcome) → unless a 9 (unless b 9 (unless c 9 (when d 9 o))) ≡ unless (pick a (pick b (pick c (pick d false true) false) false) false) 9 o
-gathered false b c d o = refl
-gathered true false c d o = refl
-gathered true true false d o = refl
-gathered true true true false o = refl
-gathered true true true true o = refl
-
-module _ (img tab : List ℕ) (M S f slot : ℕ) {entry : Entry} (e : entry ≡ entryOf img slot) where
-  pub removed-empty : {i t : List ℕ} → entry .size ≡ 0 → t ≡ puts tab f (gone img slot ++ put 1 (one 0) ∷ []) → i ≡ stored img (mark slot)
-      → out 0 0 i t ≡ left img tab f (settled (remove img M S slot))
-  unfolding remove entryOf
-  removed-empty h p q =
-      let s : wordAt img (slot + 17) ≡ 0 = ap (λ (x : Entry). x .size) (sym e) ∙ h in
-      rw (s, p, q) refl
-
-  module _ {free : Free} (g : free ≡ freeOf img) (h : entry .size ≡ 0 → ⊥) {v : Bool} (d : v ≡ mayHang M S entry free) where
-    remove-is : remove img M S slot ≡ unless v 9 (done 0 (hangStores S slot (free .count) (free .first) (free .last) (entry .start) (entry .end) (entry .size)) (gone img slot))
-    unfolding remove entryOf freeOf mayHang isEnd
-    remove-is =
-        let s : wordAt img (slot + 17) ≡ 0 → ⊥ = λ z. h (ap (λ (x : Entry). x .size) e ∙ z) in
-        rw (ne-eqb (wordAt img (slot + 17)) 0 s, gathered, d, e, g) refl
-
-    pub remove-refused : {r : ℕ} {t : List ℕ} → v ≡ false → r ≡ 9 → t ≡ over tab (f + 1) (one 9) → out r 0 img t ≡ left img tab f (settled (remove img M S slot))
-    remove-refused k p q = rw (remove-is, k, p, q) refl
-
-    pub removed : {i t : List ℕ} → v ≡ true → t ≡ puts tab f (gone img slot ++ put 1 (one 0) ∷ [])
-        → i ≡ stored img (hangStores S slot (free .count) (free .first) (free .last) (entry .start) (entry .end) (entry .size))
-        → out 0 0 i t ≡ left img tab f (settled (remove img M S slot))
-    removed k p q = rw (remove-is, k, p, q) refl
-
 -- ---- rename
 
 pub name-stored : (img tab : List ℕ) (f slot : ℕ) {name i t t′ : List ℕ} → name ≡ part tab (f + 53) 11 → i ≡ over img slot name → t ≡ over tab (f + 4) name
     → t′ ≡ over t (f + 1) (one 0) → out 0 0 i t′ ≡ left img tab f (settled (renamed tab f slot))
 unfolding renamed
-name-stored img tab f slot e p q d = rw (d, q, p, e, split) refl
+name-stored img tab f slot e p q d = rw (d, q, p, e, slot-begins) refl

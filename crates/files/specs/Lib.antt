@@ -1,2 +1,3 @@
--- Parts of the rules of functions, which functions of the code have for their promises; no promise has a second outcome.
+-- Parts of the rules of functions, which functions of the code have for their promises; what is proved of public promises.
 pub mod Parts
+pub mod Promises

@@ -1,18 +1,14 @@
 -- Parts of the rules of functions, which functions of the code have for their promises.
-use mathlib.Core.Bool.{Bool, true, false}
-use mathlib.Core.List.{List, [], _∷_, _++_}
-use Prim.Native.Nat.{ℕ, _+_, _*_, _/_, _%_}
-use lib.Dec.{eqb, ltb}
-use Rattle.rules.specs.Bytes.{pick, byteAt, wordAt, part, one, zeros}
-use Rattle.rules.specs.Stores.{Store, store, Put, put}
-use Rattle.rules.specs.Image.{isData}
-use Rattle.rules.specs.Directory.{directoryRight, firstOfDirectory, firstSlotOf, find, vacancy, placeOf, attributesAt}
-use Rattle.rules.specs.Outcome.{Outcome, refuse, done, unless, when, onSlot, onNone}
+use mathlib.Core.Bool.{true, false}
+use mathlib.Core.List.{List, [], _∷_}
+use Prim.Native.Nat.{ℕ, _/_, _%_}
+use Rattle.rules.specs.Bytes.{part, one, zeros}
+use Rattle.rules.specs.Stores.{store, Put, put}
+use Rattle.rules.specs.Directory.{directoryRight, firstOfDirectory, firstSlotOf, find, vacancy, placeOf, slotBehind, attributesAt}
+use Rattle.rules.specs.Outcome.{Outcome, done, unless, when, onSlot, onNone}
 use Rattle.rules.specs.Block.{functionField, activityField, nameField, positionField, placeField, compressionField, newNameIn, inUse}
+use Rattle.rules.specs.Transfer.{slotIn}
 use Rattle.rules.specs.Files.{opened, newEntry, shown, writeProtected, deleteProtected, remove}
-use Rattle.disk.specs.declared.Free.{Free}
-use Rattle.directory.specs.Sought.{behind}
-use Rattle.entries.specs.declared.Entry.{Entry}
 
 -- ---- 1 open read, 2 open write
 
@@ -44,26 +40,14 @@ openWriteNew img tab S f = onSlot (vacancy img S) 5 6 (openWriteAt tab f)
 unfoldable pub firstSlot : List ℕ → ℕ → Outcome
 firstSlot img S = unless (directoryRight img S) 5 (shown img (firstSlotOf firstOfDirectory))
 
+-- once the slot of the block's place is known
+unfoldable pub slotAfter : List ℕ → ℕ → ℕ → Outcome
+slotAfter img S slot = onSlot (slotBehind img S slot) 5 8 (shown img)
+
 unfoldable pub furtherSlot : List ℕ → List ℕ → ℕ → ℕ → Outcome
-furtherSlot img tab S f =
-    onSlot (behind img S (wordAt tab (f + placeField)) (byteAt tab (f + (placeField + 2)))) 5 8 (shown img)
+furtherSlot img tab S f = onSlot (slotIn img tab S f) 5 5 (slotAfter img S)
 
 -- ---- 12 delete
-
--- "last free if the count isn't 0"
-unfoldable pub isEnd : ℕ → ℕ → Free → Bool
-isEnd M S free = pick (eqb (free .count) 0) true (isData M S (free .last))
-
--- "start and end, and last free if the count isn't 0, must be data sectors and the summed count at most 65,535"
-unfoldable pub mayHang : ℕ → ℕ → Entry → Free → Bool
-mayHang M S entry free =
-    pick (isData M S (entry .start))
-    (pick (isData M S (entry .end))
-    (pick (isEnd M S free)
-    (pick (ltb 65535 (free .count + entry .size)) false true)
-    false)
-    false)
-    false
 
 -- delete, once the slot is found
 unfoldable pub deleteAt : List ℕ → List ℕ → ℕ → ℕ → ℕ → Outcome

@@ -1,18 +1,15 @@
 // The functions on whole files and on the directory: open for reading and for writing, rewind, open directory, next slot, read
 // sector, delete, rename, on the block that begins at f. Each loads, tests in the rules' order and stores; byte 1 is the last store.
 ghost use mathlib.Core.Path.{_≡_};
-ghost use mathlib.Core.List.{[], _∷_, _++_};
-ghost use Prim.Native.Nat.{_+_, _≤_};
-ghost use lib.Dec.{eqb};
-ghost use Rattle.rules.specs.Bytes.{pick, over, one, zeros, same};
-ghost use Rattle.rules.specs.Stores.{stored, put, puts};
-ghost use Rattle.rules.specs.Directory.{attributesAt};
+ghost use mathlib.Core.List.{[]};
+ghost use Rattle.rules.specs.Bytes.{zeros, same};
+ghost use Rattle.rules.specs.Stores.{puts};
 ghost use Rattle.rules.specs.Outcome.{out, left, settled};
 ghost use Rattle.rules.specs.Block.{placeIn};
-ghost use Rattle.rules.specs.Transfer.{mark};
-ghost use Rattle.rules.specs.Files.{openRead, openWrite, rewind, openDirectory, shown, nextSlot, readSector, writeProtected, deleteProtected, hangStores, gone, remove, delete, rename};
-ghost use Rattle.files.specs.Parts.{opening, openReadAt, openWriteAt, openWriteNew, firstSlot, furtherSlot, isEnd, mayHang, deleteAt, renamed, renameAt};
+ghost use Rattle.rules.specs.Files.{openRead, openWrite, rewind, openDirectory, shown, nextSlot, readSector, delete, rename};
+ghost use Rattle.files.specs.Parts.{opening, openReadAt, openWriteAt, openWriteNew, firstSlot, slotAfter, furtherSlot, deleteAt, renamed, renameAt};
 use blocks::in_use;
+use blocks::refuse;
 use cells::clear;
 use cells::copy;
 use cells::get;
@@ -20,25 +17,22 @@ use cells::get2;
 use cells::put;
 use cells::put2;
 use cells::store;
-use directory::behind;
 use directory::directory_right;
 use directory::find;
+use directory::placed;
 use directory::put_place;
+use directory::slot_behind;
 use directory::vacancy;
-use disk::Free;
-use disk::free_of;
 use disk::index_of;
-use disk::is_data;
 use disk::is_sector;
-use disk::link;
 use disk::load_sector;
-use disk::put_free;
-use entries::Entry;
-use entries::entry_at;
+use entries::is_delete_protected;
+use entries::is_write_protected;
 use entries::name_at;
 use entries::new_entry;
 use entries::put_entry;
 use names::legal_name;
+use removal::remove;
 use rules::Lookup;
 
 // Where the fields of a block stand.
@@ -61,14 +55,6 @@ const NEW_NAME: usize = 53;
 const COMPRESSION: usize = 59;
 
 const BUFFER: usize = 64;
-
-// A refusal stores its number alone.
-fn refuse(table: &mut [u8], f: u16, e: u8) -> u8
-    ensures { λ r. ⌜ (r ≡ e) × (now (table .exit) ≡ over (now (table .entry)) (f + 1) (one e)) ⌝ }
-{
-    put(table, f as usize + ERROR, e);
-    e
-}
 
 // What opening stores behind the entry.
 fn open_block(table: &mut [u8], f: u16, activity: u8, slot: u32)
@@ -211,16 +197,28 @@ fn first_slot(image: &[u8], table: &mut [u8], per: u8, f: u16) -> u8
     show(image, table, f, 256 * 4 + 16)
 }
 
+// The slot behind a slot shown.
+fn slot_after(image: &[u8], table: &mut [u8], per: u8, f: u16, slot: u32) -> u8
+    ensures { λ r. ⌜ out r 0 (now (image .entry)) (now (table .exit)) ≡ left (now (image .entry)) (now (table .entry)) f (settled (slotAfter (now (image .entry)) per slot)) ⌝ }
+{
+    let next = slot_behind(image, per, slot);
+    match next {
+        Lookup::At(after) => show(image, table, f, after),
+        Lookup::Missing => refuse(table, f, 8),
+        Lookup::Broken => refuse(table, f, 5),
+    }
+}
+
 // The slot behind the block's place shown.
 fn further_slot(image: &[u8], table: &mut [u8], per: u8, f: u16) -> u8
     ensures { λ r. ⌜ out r 0 (now (image .entry)) (now (table .exit)) ≡ left (now (image .entry)) (now (table .entry)) f (settled (furtherSlot (now (image .entry)) (now (table .entry)) per f)) ⌝ }
 {
     let a = get2(table, f as usize + PLACE);
     let d = get(table, f as usize + (PLACE + 2));
-    let next = behind(image, per, a, d);
-    match next {
-        Lookup::At(slot) => show(image, table, f, slot),
-        Lookup::Missing => refuse(table, f, 8),
+    let here = placed(image, per, a, d);
+    match here {
+        Lookup::At(slot) => slot_after(image, table, per, f, slot),
+        Lookup::Missing => refuse(table, f, 5),
         Lookup::Broken => refuse(table, f, 5),
     }
 }
@@ -247,118 +245,6 @@ pub fn read_sector(image: &[u8], table: &mut [u8], last: u8, per: u8, f: u16) ->
     }
     load_sector(table, f as usize + BUFFER, image, index_of(per, a));
     put(table, f as usize + ERROR, 0);
-    0
-}
-
-fn is_write_protected(image: &[u8], slot: u32) -> bool
-    ensures { λ r. ⌜ r ≡ writeProtected (attributesAt (now (image .entry)) slot) ⌝ }
-{
-    let attributes = get(image, slot as usize + 11);
-    attributes / 128 % 2 == 1
-}
-
-fn is_delete_protected(image: &[u8], slot: u32) -> bool
-    ensures { λ r. ⌜ r ≡ deleteProtected (attributesAt (now (image .entry)) slot) ⌝ }
-{
-    let attributes = get(image, slot as usize + 11);
-    attributes / 64 % 2 == 1
-}
-
-// A slot's first byte becomes 255.
-fn mark(image: &mut [u8], slot: u32)
-    ensures { λ _. ⌜ now (image .exit) ≡ stored (now (image .entry)) (mark slot) ⌝ }
-{
-    put(image, slot as usize, 255);
-}
-
-// The slot as it is marked, in the block.
-fn show_marked(image: &[u8], table: &mut [u8], f: u16, slot: u32)
-    ensures { λ _. ⌜ now (table .exit) ≡ puts (now (table .entry)) f (gone (now (image .entry)) slot ++ put 1 (one 0) ∷ []) ⌝ }
-{
-    put(table, f as usize + NAME, 255);
-    copy(table, f as usize + NAME + 1, image, slot as usize + 1, 23);
-    put(table, f as usize + ERROR, 0);
-}
-
-// Can a chain hang behind the free chain's end? Where the free chain is empty, it hangs behind none.
-fn is_end(last: u8, per: u8, free: Free) -> bool
-    ensures { λ r. ⌜ r ≡ isEnd last per free ⌝ }
-{
-    if free.count == 0 {
-        return true;
-    }
-    is_data(last, per, free.last)
-}
-
-// May the entry's chain be hung behind the free chain?
-fn may_hang(last: u8, per: u8, entry: Entry, free: Free) -> bool
-    ensures { λ r. ⌜ r ≡ mayHang last per entry free ⌝ }
-{
-    let start = is_data(last, per, entry.start);
-    if !start {
-        return false;
-    }
-    let end = is_data(last, per, entry.end);
-    if !end {
-        return false;
-    }
-    let tail = is_end(last, per, free);
-    if !tail {
-        return false;
-    }
-    if free.count as u32 + entry.size as u32 > 65535 {
-        return false;
-    }
-    true
-}
-
-// Where the free chain begins then.
-fn head_of(entry: Entry, free: Free) -> u16
-    ensures { λ r. ⌜ r ≡ pick (eqb (free .count) 0) (entry .start) (free .first) ⌝ }
-{
-    if free.count == 0 {
-        return entry.start;
-    }
-    free.first
-}
-
-// The entry's chain hung behind the free chain, and its slot marked.
-fn hang(image: &mut [u8], per: u8, slot: u32, entry: Entry, free: Free)
-    requires { ⌜ free .count + entry .size ≤ 65535 ⌝ }
-    ensures { λ _. ⌜ now (image .exit) ≡ stored (now (image .entry)) (hangStores per slot (free .count) (free .first) (free .last) (entry .start) (entry .end) (entry .size)) ⌝ }
-{
-    link(
-        image,
-        free.count == 0,
-        index_of(per, free.last),
-        entry.start,
-    );
-    put_free(
-        image,
-        head_of(entry, free),
-        entry.end,
-        free.count + entry.size,
-    );
-    mark(image, slot);
-}
-
-// A file removed.
-fn remove(image: &mut [u8], table: &mut [u8], last: u8, per: u8, f: u16, slot: u32) -> u8
-    ensures { λ r. ⌜ out r 0 (now (image .exit)) (now (table .exit)) ≡ left (now (image .entry)) (now (table .entry)) f (settled (remove (now (image .entry)) last per slot)) ⌝ }
-{
-    let entry = entry_at(image, slot);
-    let free = free_of(image);
-    if entry.size == 0 {
-        show_marked(image, table, f, slot);
-        mark(image, slot);
-        return 0;
-    }
-    let allowed = may_hang(last, per, entry, free);
-    if !allowed {
-        return refuse(table, f, 9);
-    }
-    show_marked(image, table, f, slot);
-    hang(image, per, slot, entry, free);
     0
 }
 
@@ -412,8 +298,8 @@ fn store_name(image: &mut [u8], table: &mut [u8], f: u16, slot: u32) -> u8
 fn rename_at(image: &mut [u8], table: &mut [u8], per: u8, f: u16, slot: u32) -> u8
     ensures { λ r. ⌜ out r 0 (now (image .exit)) (now (table .exit)) ≡ left (now (image .entry)) (now (table .entry)) f (settled (renameAt (now (image .entry)) (now (table .entry)) per f slot)) ⌝ }
 {
-    let used = in_use(true, table, slot);
-    if used {
+    let busy = in_use(true, table, slot);
+    if busy {
         return refuse(table, f, 2);
     }
     let fixed = is_write_protected(image, slot);
@@ -422,7 +308,7 @@ fn rename_at(image: &mut [u8], table: &mut [u8], per: u8, f: u16, slot: u32) -> 
     }
     let found = find(image, per, table, f as usize + NEW_NAME);
     match found {
-        Lookup::At(_) => refuse(table, f, 3),
+        Lookup::At(_) => refuse(table, f, 3), // its own name too
         Lookup::Missing => store_name(image, table, f, slot),
         Lookup::Broken => refuse(table, f, 5),
     }

@@ -1,2 +1,3 @@
--- What the host gets.
+-- What the host gets, and what is promised of it.
 pub mod Hosted
+pub mod Promises

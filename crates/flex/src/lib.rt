@@ -5,7 +5,9 @@ ghost use mathlib.Core.List.{[]};
 ghost use Rattle.rules.specs.Outcome.{out, left};
 ghost use Rattle.rules.specs.Block.{blockAt, preset, extension};
 ghost use Rattle.rules.specs.Call.{call};
+ghost use Rattle.rules.specs.Census.{survey};
 ghost use Rattle.rules.specs.Text.{told, errorText};
+ghost use Rattle.rules.specs.Host.{hostCensus};
 ghost use Rattle.flex.specs.Hosted.{Hosted};
 
 // Preset: the answer.
@@ -31,6 +33,14 @@ pub extern "C" fn flex_call(image: &mut [u8], table: &mut [u8], fcb: usize, byte
 {
     let reply = fms::call(image, table, fcb, byte);
     256 * reply.answer as u32 + reply.byte as u32
+}
+
+// The census: the answer, and both outputs as bytes, two an entry.
+#[no_mangle]
+pub extern "C" fn flex_census(image: &[u8], sectors: &mut [u8], owners: &mut [u8]) -> u32
+    ensures { λ r. ⌜ survey r (now (sectors .exit)) (now (owners .exit)) ≡ hostCensus (now (image .entry)) (now (sectors .entry)) (now (owners .entry)) ⌝ }
+{
+    census_bytes::census_bytes(image, sectors, owners) as u32
 }
 
 // The error text: the answer.

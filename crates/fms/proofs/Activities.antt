@@ -1,47 +1,66 @@
 -- Laws of the codes and activities, one for each way out of the code's tests.
-use mathlib.Core.Path.{_≡_, refl, sym, ap, _∙_}
+use mathlib.Core.Path.{_≡_, refl}
 use mathlib.Core.Bool.{Bool, true, false}
-use Prim.Native.Nat.{ℕ, _+_, _≤_, _<_}
+use Prim.Native.Nat.{ℕ, _≤_, _<_}
 use native.Mathlib.Omega.{arith}
 use lib.Dec.{eqb}
-use borrow.Author.Tests.{eq-eqb, ne-eqb}
-use Rattle.rules.specs.Bytes.{pick, within}
+use borrow.Author.Tests.{ne-eqb, le-leb, lt-leb}
+use Rattle.rules.specs.Bytes.{within}
 use Rattle.rules.specs.Block.{idle}
 use Rattle.rules.specs.Call.{served, fits}
-use Rattle.laws.specs.Ranges.{every, passes, passes-not}
 
 -- ---- served: the ranges of a byte
 
-pub served-0 : (b : ℕ) → b < 3 → true ≡ served b
-unfolding served within every
-served-0 b h = passes served 0 3 tt b (omega arith) h
+module _ (b : ℕ) where
+  pub served-0 : b < 3 → true ≡ served b
+  unfolding served within
+  served-0 h = rw (le-leb 0 b (omega arith), le-leb b 2 (omega arith)) refl
 
-pub served-3 : (b : ℕ) → 3 ≤ b → b < 4 → false ≡ served b
-unfolding served within every
-served-3 b h k = passes-not served 3 1 tt b h k
+  pub served-3 : 3 ≤ b → b < 4 → false ≡ served b
+  unfolding served within
+  served-3 h k =
+      let e : b ≡ 3 = omega arith in
+      rw e refl
 
-pub served-4 : (b : ℕ) → 4 ≤ b → b < 8 → true ≡ served b
-unfolding served within every
-served-4 b h k = passes served 4 4 tt b h k
+  pub served-4 : 4 ≤ b → b < 8 → true ≡ served b
+  unfolding served within
+  served-4 h k = rw (le-leb 0 b (omega arith), lt-leb b 2 (omega arith), le-leb 4 b h, le-leb b 7 (omega arith)) refl
 
--- 8, 10 and 11
-pub served-8 : (b : ℕ) → 8 ≤ b → b < 12 → (b ≡ 9 → ⊥) → false ≡ served b
-unfolding served within every
-served-8 b h k n =
-    passes-not (λ (x : ℕ). pick (eqb x 9) false (served x)) 8 4 tt b h k
-    ∙ ap (λ (t : Bool). pick t false (served b)) (ne-eqb b 9 n)
+  -- 8, 10 and 11
+  pub served-8 : 8 ≤ b → b < 12 → (b ≡ 9 → ⊥) → false ≡ served b
+  unfolding served within
+  served-8 h k n =
+      rw (le-leb 0 b (omega arith), lt-leb b 2 (omega arith), le-leb 4 b (omega arith), lt-leb b 7 (omega arith), ne-eqb b 9 n, lt-leb 12 b k) refl
 
-pub served-9 : (b : ℕ) → b ≡ 9 → true ≡ served b
-unfolding served within
-served-9 b e = rw e refl
+  pub served-9 : b ≡ 9 → true ≡ served b
+  unfolding served within
+  served-9 e = rw e refl
 
-pub served-12 : (b : ℕ) → 12 ≤ b → b < 14 → true ≡ served b
-unfolding served within every
-served-12 b h k = passes served 12 2 tt b h k
+  pub served-12 : 12 ≤ b → b < 14 → true ≡ served b
+  unfolding served within
+  served-12 h k =
+      rw (
+        le-leb 0 b (omega arith),
+        lt-leb b 2 (omega arith),
+        le-leb 4 b (omega arith),
+        lt-leb b 7 (omega arith),
+        ne-eqb b 9 (omega arith),
+        le-leb 12 b h,
+        le-leb b 13 (omega arith),
+      ) refl
 
-pub served-14 : (b : ℕ) → 14 ≤ b → b < 256 → false ≡ served b
-unfolding served within every
-served-14 b h k = passes-not served 14 242 tt b h k
+  pub served-14 : 14 ≤ b → false ≡ served b
+  unfolding served within
+  served-14 h =
+      rw (
+        le-leb 0 b (omega arith),
+        lt-leb b 2 (omega arith),
+        le-leb 4 b (omega arith),
+        lt-leb b 7 (omega arith),
+        ne-eqb b 9 (omega arith),
+        le-leb 12 b (omega arith),
+        lt-leb b 13 (omega arith),
+      ) refl
 
 pub ruleset codes = (served-0, served-3, served-4, served-8, served-9, served-12, served-14)
 

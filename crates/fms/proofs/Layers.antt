@@ -19,6 +19,7 @@ use Rattle.disk.specs.declared.Shape.{Shape}
 use Rattle.disk.specs.declared.Shaped.{Shaped}
 use Rattle.disk.specs.declared.Shaped.the-variants.{Right, Wrong}
 use Rattle.disk.specs.Loaded.{shapeOf}
+use Rattle.disk.specs.Shapes.{right-is, wrong-is}
 use Rattle.fms.specs.Steps.{admitted, onShape}
 
 -- a refusal leaves the image as it is, whatever it holds
@@ -57,39 +58,22 @@ module _ (img tab : List ℕ) (M S f b : ℕ) {code act drive e : ℕ} {known fi
 
 -- ---- the shape
 
--- M and S as the image says them
-abbrev said : List ℕ → Shape
-said img = record { last = lastTrack img; per = perTrack img }
-
 asked-is : (img tab : List ℕ) (f b : ℕ) → asked img tab f b ≡ pick (shapeRight img) (onShape img tab (lastTrack img) (perTrack img) f b) (refuse 16)
 unfolding asked checked onShape admitted flag
 asked-is img tab f b = refl
 
-never : (z : Shaped) (s : Shape) → z ≡ Right s → z ≡ Wrong → ⊥
-never z s p q = let c : _≡_ {A = ℕ} 0 1 = cc in omega arith
-
 module _ (img tab : List ℕ) (f b : ℕ) {z : Shaped} (e : z ≡ shapeOf img) where
   pub block-right : {s : Shape} {M S : ℕ} {o : Out} → z ≡ Right s → M ≡ s .last → S ≡ s .per → o ≡ left img tab f (settled (onShape img tab M S f b))
       → o ≡ left img tab f (settled (asked img tab f b))
-  unfolding shapeOf
-  block-right {s} {M} {S} {o} r p q h = rw asked-is (go (shapeRight img) e)
-    where
-      go : (t : Bool) → z ≡ pick t (Right (said img)) Wrong → o ≡ left img tab f (settled (pick t (onShape img tab (lastTrack img) (perTrack img) f b) (refuse 16)))
-      go true w =
-          let same : s ≡ said img = cc in
-          let a : M ≡ lastTrack img = p ∙ ap (λ (x : Shape). x .last) same in
-          let c : S ≡ perTrack img = q ∙ ap (λ (x : Shape). x .per) same in
-          rw (← a, ← c) h
-      go false w = absurd (never z s r w)
+  block-right {s} {M} {S} {o} r p q h =
+      let w = right-is img e r in
+      let m : M ≡ lastTrack img = p ∙ w .1 in
+      let n : S ≡ perTrack img = q ∙ w .2 in
+      rw (asked-is, w .0, ← m, ← n) h
 
   pub block-wrong : {tab′ : List ℕ} {x y : ℕ} → z ≡ Wrong → out x y [] tab′ ≡ left [] tab f (settled (refuse 16))
       → out x y img tab′ ≡ left img tab f (settled (asked img tab f b))
-  unfolding shapeOf
-  block-wrong {tab′} {x} {y} r h = rw asked-is (go (shapeRight img) e)
-    where
-      go : (t : Bool) → z ≡ pick t (Right (said img)) Wrong → out x y img tab′ ≡ left img tab f (settled (pick t (onShape img tab (lastTrack img) (perTrack img) f b) (refuse 16)))
-      go true w = absurd (never z (said img) w r)
-      go false w = told img tab tab′ f x y 16 h
+  block-wrong {tab′} {x} {y} r h = rw (asked-is, wrong-is img e r) (told img tab tab′ f x y 16 h)
 
 -- ---- table and number
 

@@ -11,6 +11,7 @@ use borrow.Author.Tests.{eq-eqb, ne-eqb, eqb-true}
 use lib.Dec.{eqb}
 use mathlib.Core.Logic.{_≢_}
 use Rattle.rules.specs.Transfer.{fresh}
+use Rattle.laws.specs.Tests.{never}
 use Rattle.rules.specs.Bytes.{pick, byteAt, wordAt, part, over, one, two, six, zeros, same}
 
 -- past the end a byte reads as 0
@@ -241,9 +242,6 @@ module _ (xs ys : List ℕ) (i j n : ℕ) {w : Bool} {a b : ℕ} (p : a ≡ getD
 pub same-end : (xs ys : List ℕ) (i j n : ℕ) {w : Bool} → w ≡ same (part xs i n) (part ys j n) → n ≤ 0 → true ≡ w
 unfolding same
 same-end xs ys i j n v h = rw (v, part-none xs i n h, part-none ys j n h) refl
-
-never : false ≡ true → ⊥
-never h = let z : _≡_ {A = ℕ} 0 1 = ap (λ (b : Bool). pick b 1 0) h in omega arith
 
 -- a part past the end is zeros
 pub part-past : (m : List ℕ) (at n : ℕ) → length m ≤ at → part m at n ≡ zeros n

@@ -1,6 +1,5 @@
 -- Laws of the definitions of `rules`, which proofs cite.
 pub mod Tests
-pub mod Ranges
 pub mod Bytes
 pub mod Single
 pub mod Walk

@@ -2,10 +2,10 @@
 -- A test that refuses ends the way, with the number in byte 1 of the block; any other leads on to the next.
 use mathlib.Core.Path.{_≡_, refl}
 use mathlib.Core.Bool.{Bool, true, false}
-use mathlib.Core.List.{List, []}
+use mathlib.Core.List.{List}
 use Prim.Native.Nat.{ℕ, _+_}
-use Rattle.rules.specs.Bytes.{pick, over, one}
-use Rattle.rules.specs.Outcome.{Outcome, refuse, unless, when, onSlot, onNone, Out, out, settled, left}
+use Rattle.rules.specs.Bytes.{over, one}
+use Rattle.rules.specs.Outcome.{Outcome, unless, when, onSlot, onNone, Out, out, settled, left}
 use Rattle.rules.specs.declared.Lookup.{Lookup}
 use Rattle.rules.specs.declared.Lookup.the-variants.{At, Missing, Broken}
 

@@ -1,14 +1,10 @@
--- The directory's walk and scan, a turn at a time: what one more sector, or one more slot, makes of them.
+-- The directory's walk, a turn at a time: what one more sector, or one more slot, makes of it.
 use mathlib.Core.Path.{_≡_, refl, ap}
-use mathlib.Core.Bool.{Bool, true, false}
-use mathlib.Core.List.{List, [], _∷_, _++_}
-use Prim.Native.Nat.{ℕ, zero, suc, _+_, _-_, _≤_, _<_}
+use mathlib.Core.Bool.{true, false}
+use mathlib.Core.List.{List, [], _∷_}
+use Prim.Native.Nat.{ℕ, zero, suc, _+_, _-_, _*_, _/_, _%_, _≤_, _<_}
 use native.Mathlib.Omega.{arith}
-use Rattle.rules.specs.Directory.{nextOf, onNext, ends, sectorsFrom, slotsAt, onSeen, scan}
-use Rattle.rules.specs.declared.Seen.{Seen}
-use Rattle.rules.specs.declared.Seen.the-variants.{Hit, Stop, Pass}
-use Rattle.rules.specs.declared.Found.{Found}
-use Rattle.rules.specs.declared.Found.the-variants.{Slot, Stopped, Further}
+use Rattle.rules.specs.Directory.{nextOf, onNext, ends, sectorsFrom, slotsAt}
 
 less : (n : ℕ) → n ≡ suc n - 1
 less n = omega arith
@@ -45,19 +41,6 @@ unfolding slotsAt
 slots-none at zero h = refl
 slots-none at (suc n) h = absurd (omega arith)
 
--- a scan goes on behind slots where it neither hit nor stopped
-abbrev pub onFound : Found → Found → Found
-onFound (Slot o) next = Slot o
-onFound Stopped next = Stopped
-onFound Further next = next
-
-pub scan-append : (look : ℕ → Seen) (xs ys : List ℕ) → scan look (xs ++ ys) ≡ onFound (scan look xs) (scan look ys)
-unfolding scan
-scan-append look [] ys = refl
-scan-append look (x ∷ xs) ys = go (scan-append look xs ys) (look x)
-  where
-    go : scan look (xs ++ ys) ≡ onFound (scan look xs) (scan look ys) → (a : Seen)
-        → onSeen a (Slot x) Stopped (scan look (xs ++ ys)) ≡ onFound (onSeen a (Slot x) Stopped (scan look xs)) (scan look ys)
-    go ih Hit = refl
-    go ih Stop = refl
-    go ih Pass = ih
+-- a slot's sector and offset are where it begins
+pub slot-begins : (slot : ℕ) → 256 * (slot / 256) + slot % 256 ≡ slot
+slot-begins slot = omega arith

@@ -1,13 +1,13 @@
 -- Classes of bytes; a turn and the end of each loop over the bytes of a name.
-use mathlib.Core.Path.{_≡_, refl, sym, ap, _∙_}
+use mathlib.Core.Path.{_≡_, refl, ap, _∙_}
 use mathlib.Core.Bool.{Bool, true, false}
-use mathlib.Core.List.{List, [], _∷_}
+use mathlib.Core.List.{List}
 use mathlib.Core.Logic.{_⊎_, inl, inr}
 use Prim.Native.Nat.{ℕ, _+_, _-_, _≤_, _<_}
 use native.Mathlib.Omega.{arith}
 use lib.ListN.{getD}
 use borrow.Author.Tests.{le-leb, lt-leb, ne-eqb}
-use Rattle.rules.specs.Bytes.{pick, within, part}
+use Rattle.rules.specs.Bytes.{within, part}
 use Rattle.rules.specs.Names.{isLetter, isDigit, isNameByte, allZero, goesOn, isWord, legal}
 use Rattle.laws.specs.Bytes.{part-more, part-none}
 

@@ -57,6 +57,7 @@ fn mark(numbers: &[u16], marks: &mut [u16]) -> bool
     true
 }
 
+// A number as an index.
 fn wide(x: u16) -> usize
     ensures { λ r. ⌜ r ≡ x ⌝ }
 {

@@ -18,7 +18,7 @@ use directory::slot_behind;
 use outputs::run;
 use rules::Lookup;
 
-// Was it never used?
+// Was a slot never used?
 fn is_new(image: &[u8], slot: u32) -> bool
     ensures { λ r. ⌜ r ≡ neverUsed (now (image .entry)) slot ⌝ }
 {

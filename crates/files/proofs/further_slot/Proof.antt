@@ -1,17 +1,17 @@
-use Rattle.files.specs.Parts.{furtherSlot}
+use Rattle.files.specs.Parts.{slotAfter, furtherSlot}
 use Rattle.laws.specs.Settled.{slot-on, slot-missing, slot-broken}
-use Rattle.files.proofs.Laws.{behind-loaded}
+use Rattle.files.proofs.Laws.{placed-loaded}
 use borrow.Author.Needs.{needs}
 use Rattle.files.proofs.further_slot.Statement.{statement}
 use Rattle.files.proofs.further_slot.Tie as tie
 
 pub further-slot-spec : {M : Type 1} → statement M
-unfolding furtherSlot
+unfolding furtherSlot slotAfter
 further-slot-spec =
     tie.close
     (tie.spec
     (λ c. search needs) (λ c κs. search needs) (λ c. search needs) (λ c. search needs) (λ c κs. search needs)
     (λ c κs. search needs) (λ c. search needs) (λ c κs. search needs) (λ c. search needs) (λ c κs. search needs)
-    (λ c. search needs) (λ c κs. search needs) (λ c. search needs) (λ c. search (slot-on, behind-loaded))
-    (λ c. search needs) (λ c. search (slot-missing, behind-loaded)) (λ c. search needs)
-    (λ c. search (slot-broken, behind-loaded)))
+    (λ c. search needs) (λ c κs. search needs) (λ c. search needs) (λ c. search (slot-on, placed-loaded))
+    (λ c. search needs) (λ c. search (slot-missing, placed-loaded)) (λ c. search needs)
+    (λ c. search (slot-broken, placed-loaded)))

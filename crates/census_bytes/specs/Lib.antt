@@ -1,0 +1,2 @@
+-- What is promised of the census as bytes.
+pub mod Promises

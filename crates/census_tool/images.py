@@ -1,0 +1,126 @@
+#!/usr/bin/env python3
+"""Writes the images that the program crates census_* read, into each one's file `stdin`.
+
+    python3 crates/census_tool/images.py        (from the repository's root)
+
+Each is made of the five-sector diskette of document 01 (M = 1, S = 5) by the changes that its
+function's first line tells.
+"""
+
+SECTOR = 256
+
+
+def at(track, sector):
+    """Where a sector begins."""
+    return (track * 5 + sector - 1) * SECTOR
+
+
+def put(image, place, *bytes_):
+    image[place:place + len(bytes_)] = bytes(bytes_)
+
+
+def chain(image, sectors):
+    """Sectors of track 1 linked in this order; the last links to 0,0."""
+    for this, then in zip(sectors, sectors[1:] + [None]):
+        put(image, at(1, this), *((1, then) if then else (0, 0)))
+
+
+def free(image, sectors):
+    chain(image, sectors)
+    ends = (1, sectors[0], 1, sectors[-1]) if sectors else (0, 0, 0, 0)
+    put(image, at(0, 3) + 29, *ends, 0, len(sectors))
+
+
+def slot(image, number, name, sectors):
+    """A live slot, counted from 1: name, extension TXT, start, end and size."""
+    place = at(0, 5) + 16 + 24 * (number - 1)
+    put(image, place, *(name.encode().ljust(8, b"\0") + b"TXT"))
+    chain(image, sectors)
+    put(image, place + 13, 1, sectors[0], 1, sectors[-1], 0, len(sectors))
+
+
+def empty():
+    """Nothing on it, all sectors in the free chain."""
+    image = bytearray(2 * 5 * SECTOR)
+    put(image, at(0, 3) + 38, 1, 5)
+    free(image, [1, 2, 3, 4, 5])
+    return image
+
+
+def p4():
+    """The file A.TXT, 253 times the byte 65, written and closed."""
+    image = empty()
+    free(image, [3, 4, 5])
+    slot(image, 1, "A", [1, 2])
+    put(image, at(1, 1) + 2, 0, 1, *[65] * 252)
+    put(image, at(1, 2) + 2, 0, 2, 65)
+    return image
+
+
+def r41():
+    """One byte short: the shape is not right."""
+    return empty()[:-1]
+
+
+def r42():
+    """The directory's sector links to itself: it has no end."""
+    image = empty()
+    put(image, at(0, 5), 0, 5)
+    return image
+
+
+def r43():
+    """Two live slots are named A.TXT."""
+    image = empty()
+    slot(image, 1, "A", [1])
+    slot(image, 2, "A", [2])
+    free(image, [3, 4, 5])
+    return image
+
+
+def r44():
+    """The free chain ends at 1,5 and says that it ends at 1,4."""
+    image = empty()
+    put(image, at(0, 3) + 31, 1, 4)
+    return image
+
+
+def r45():
+    """The file A.TXT has two sectors and says that it has three."""
+    image = p4()
+    put(image, at(0, 5) + 16 + 17, 0, 3)
+    return image
+
+
+def r46():
+    """Five sectors in chains, but 1,2 in two of them and 1,5 in none."""
+    image = empty()
+    slot(image, 1, "A", [1, 2])
+    slot(image, 2, "B", [2])
+    free(image, [3, 4])
+    return image
+
+
+def shared():
+    """The files A.TXT and B.TXT share their last sector, 1,3."""
+    image = empty()
+    slot(image, 1, "A", [1, 3])
+    slot(image, 2, "B", [2, 3])
+    free(image, [4, 5])
+    return image
+
+
+def long():
+    """64,001 bytes."""
+    return bytes(64001)
+
+
+IMAGES = {
+    "empty": empty, "p4": p4, "41": r41, "42": r42, "43": r43, "44": r44, "45": r45, "46": r46,
+    "shared": shared, "long": long,
+}
+
+if __name__ == "__main__":
+    for name, make in IMAGES.items():
+        with open(f"crates/census_{name}/stdin", "wb") as f:
+            f.write(make())

@@ -1,0 +1,350 @@
+//! Damaged diskettes, random control blocks, and calls aimed at states that a host alone would hardly reach.
+
+use crate::pair::Checked;
+use crate::scene::Scene;
+use flex::{BLOCK, BLOCKS};
+
+const ACTIVITIES: [u8; 10] = [0, 0, 1, 1, 2, 2, 16, 3, 17, 255];
+const INDICES: [u8; 14] = [0, 0, 0, 1, 2, 3, 4, 5, 100, 253, 254, 255, 255, 255];
+
+impl Scene<'_> {
+    /// From a state that calls have made: one damage, one look at what that does, and back.
+    pub fn what_if(&mut self) -> Checked<()> {
+        let before = self.snapshot();
+        self.damage_image();
+        match self.random.below(4) {
+            0 => self.aim()?,
+            1 => self.work()?,
+            _ => self.survey()?,
+        }
+        self.restore(before);
+        Ok(())
+    }
+
+    /// One thing on the diskette that is not as it should be, or is healed.
+    pub fn damage_image(&mut self) {
+        match self.random.below(18) {
+            0 => {
+                let count = self.any_count();
+                self.set_word(545, count);
+            }
+            1 => {
+                let (at, address) = (self.random.one_of(&[541, 543]), self.any_address());
+                self.set_address(at, address);
+            }
+            2 => self.damage_directory(),
+            3..=6 => self.damage_slot(),
+            7..=9 => self.damage_link(),
+            10 => self.flip(),
+            11 => self.reshape(),
+            12..=14 => self.share(),
+            15 => self.heal_directory(),
+            16 => self.heal_shape(),
+            _ => self.reformat(),
+        }
+    }
+
+    fn damage_directory(&mut self) {
+        let sector = if self.random.chance(50) { 5 } else { self.random.between(5, self.per) };
+        let next = self.random.between(5, self.per) as u8;
+        let address = match self.random.below(8) {
+            0 => (0, 4),
+            1 => (0, self.per as u8 + 1),
+            2 => (1, 5),
+            3 => (0, 5),
+            4 => (0, 0),
+            5 => self.any_address(),
+            _ => (0, next),
+        };
+        self.set_address((sector - 1) * 256, address);
+    }
+
+    fn damage_slot(&mut self) {
+        let slot = self.any_slot();
+        match self.random.below(8) {
+            0 => {
+                let attributes = self.random.one_of(&[0, 0, 64, 128, 192, 255]);
+                self.pair.poke_image(slot + 11, &[attributes]);
+            }
+            1 => {
+                let first = self.random.one_of(&[0, 1, 127, 128, 255]);
+                self.pair.poke_image(slot, &[first]);
+            }
+            2 => {
+                let from = self.any_slot();
+                let entry = self.pair.image()[from..from + 24].to_vec();
+                self.pair.poke_image(slot, &entry);
+            }
+            3 => {
+                let size = self.any_count();
+                self.set_word(slot + 17, size);
+            }
+            4..=5 => {
+                let (at, address) = (self.random.one_of(&[13, 15]), self.any_address());
+                self.set_address(slot + at, address);
+            }
+            _ => self.invent_slot(slot),
+        }
+    }
+
+    /// A live slot, with attributes, addresses and a size of its own.
+    fn invent_slot(&mut self, slot: usize) {
+        let name = self.legal_name();
+        let attributes = self.random.one_of(&[0, 0, 0, 64, 128, 192]);
+        let (start, end, size) = (self.any_address(), self.any_address(), self.any_count());
+        self.pair.poke_image(slot, &name);
+        self.pair.poke_image(slot + 11, &[attributes]);
+        self.set_address(slot + 13, start);
+        self.set_address(slot + 15, end);
+        self.set_word(slot + 17, size);
+    }
+
+    fn damage_link(&mut self) {
+        let (track, sector) = self.data_sector();
+        let address = if self.random.chance(20) { (track, sector) } else { self.any_address() };
+        self.set_address(diskettes::offset(self.per, track as usize, sector as usize), address);
+    }
+
+    /// One bit of track 0 or of a sector's first four bytes.
+    fn flip(&mut self) {
+        let at = if self.random.chance(60) {
+            self.random.below(self.per * 256)
+        } else {
+            self.random.below((self.last + 1) * self.per) * 256 + self.random.below(4)
+        };
+        let byte = self.pair.image()[at] ^ 1 << self.random.below(8);
+        self.pair.poke_image(at, &[byte]);
+    }
+
+    /// Other M and S: any, or such that the length still fits.
+    fn reshape(&mut self) {
+        let sectors = (self.last + 1) * self.per;
+        let fitting: Vec<[u8; 2]> = (5..=36)
+            .filter(|per| sectors % per == 0 && (2..=80).contains(&(sectors / per)))
+            .map(|per| [(sectors / per - 1) as u8, per as u8])
+            .collect();
+        let shape = if self.random.chance(70) {
+            self.random.one_of(&fitting)
+        } else {
+            [self.random.byte(), self.random.byte()]
+        };
+        self.pair.poke_image(550, &shape);
+    }
+
+    /// Two slots, or a slot and the free chain, with one and the same sector.
+    fn share(&mut self) {
+        let (from, to) = (self.any_slot(), self.any_slot());
+        let addresses = self.pair.image()[from + 13..from + 19].to_vec();
+        if self.random.chance(70) {
+            self.pair.poke_image(to + 13, &addresses);
+        } else {
+            self.pair.poke_image(541, &addresses);
+        }
+    }
+
+    /// One thing in a control block that no call would have left so.
+    pub fn damage_block(&mut self, fcb: usize) {
+        match self.random.below(10) {
+            0 => {
+                let mut block = [0; BLOCK];
+                self.random.fill(&mut block);
+                self.set_block(fcb, 0, &block);
+                let activity = self.random.one_of(&ACTIVITIES);
+                self.set_block(fcb, 2, &[activity, 0]);
+            }
+            1 => {
+                let activity = self.random.one_of(&ACTIVITIES);
+                self.set_block(fcb, 2, &[activity]);
+            }
+            2 => {
+                let index = self.random.one_of(&INDICES);
+                self.set_block(fcb, 34, &[index]);
+            }
+            3 => {
+                let (at, address) = (self.random.one_of(&[17, 19, 30, 64]), self.any_address());
+                self.set_block_address(fcb, at, address);
+            }
+            4 => {
+                let size = self.any_count().to_be_bytes();
+                self.set_block(fcb, 21, &size);
+            }
+            5..=6 => self.damage_place(fcb),
+            7 => self.join(fcb),
+            8 => self.set_block(fcb, 3, &[0]),
+            _ => self.set_block(fcb, 0, &[0; BLOCK]),
+        }
+    }
+
+    fn damage_place(&mut self, fcb: usize) {
+        let slot = self.any_slot();
+        let [track, sector, displacement] = Scene::place(slot);
+        let place = match self.random.below(8) {
+            0 => [0, 0, 0],
+            1 => [track, sector, displacement.wrapping_add(1)],
+            2 => [1, sector, displacement],
+            3 => [0, self.random.byte(), displacement],
+            4 => [self.random.byte(), self.random.byte(), self.random.byte()],
+            5 => [0, 5, self.random.one_of(&[0, 15, 17, 39, 231, 233, 255])],
+            _ => [track, sector, displacement],
+        };
+        self.set_block(fcb, 47, &place);
+    }
+
+    /// The block at another one's place.
+    fn join(&mut self, fcb: usize) {
+        let other = self.random.below(BLOCKS);
+        let place = self.block(other)[47..50].to_vec();
+        self.set_block(fcb, 47, &place);
+    }
+
+    /// A block made ready for one call that reaches deep, and that call.
+    pub fn aim(&mut self) -> Checked<()> {
+        let fcb = self.random.below(BLOCKS);
+        self.set_block(fcb, 3, &[0]);
+        match self.random.below(8) {
+            0..=1 => self.aim_take(fcb),
+            2 => self.aim_load(fcb),
+            3 => self.aim_index(fcb),
+            4 => self.aim_close(fcb),
+            5 => self.aim_next_slot(fcb),
+            _ => self.aim_file(fcb),
+        }
+    }
+
+    /// Function 0 in writing at index 0.
+    fn aim_take(&mut self, fcb: usize) -> Checked<()> {
+        let slot = self.any_slot();
+        let position = if self.random.chance(30) { self.information(29) } else { self.any_address() };
+        let start = self.any_address();
+        let size = self.any_count();
+        if self.random.chance(40) {
+            let count = self.any_count();
+            self.set_word(545, count);
+        }
+        if self.random.chance(50) {
+            let first = self.data_sector();
+            self.set_address(541, first);
+        }
+        self.set_block(fcb, 47, &Scene::place(slot));
+        if self.random.chance(20) {
+            self.damage_place(fcb);
+        }
+        self.set_block_address(fcb, 17, start);
+        self.set_block(fcb, 21, &size.to_be_bytes());
+        self.set_block_address(fcb, 30, position);
+        self.set_block(fcb, 34, &[0]);
+        self.set_block(fcb, 2, &[2]);
+        let n = self.random.between(1, 3);
+        self.transfer(fcb, n)
+    }
+
+    /// Function 0 in reading at index 0.
+    fn aim_load(&mut self, fcb: usize) -> Checked<()> {
+        let (start, position, link) = (self.any_address(), self.any_address(), self.any_address());
+        self.set_block_address(fcb, 17, start);
+        self.set_block_address(fcb, 30, position);
+        self.set_block_address(fcb, 64, link);
+        self.set_block(fcb, 34, &[0]);
+        self.set_block(fcb, 2, &[1]);
+        let n = self.random.between(1, 3);
+        self.transfer(fcb, n)
+    }
+
+    /// Function 0 at any index, often the last ones.
+    fn aim_index(&mut self, fcb: usize) -> Checked<()> {
+        let (position, index) = (self.any_address(), self.random.one_of(&INDICES));
+        let activity = self.random.one_of(&[1, 2, 2]);
+        self.set_block_address(fcb, 30, position);
+        self.set_block(fcb, 34, &[index]);
+        self.set_block(fcb, 2, &[activity]);
+        let n = self.random.between(1, 4);
+        self.transfer(fcb, n)
+    }
+
+    fn aim_close(&mut self, fcb: usize) -> Checked<()> {
+        let (position, index) = (self.any_address(), self.random.one_of(&INDICES));
+        let activity = self.random.one_of(&[1, 2, 2, 2, 2, 16, 3, 255]);
+        let position = if self.random.chance(30) { (0, 0) } else { position };
+        self.set_block_address(fcb, 30, position);
+        self.set_block(fcb, 34, &[index]);
+        self.set_block(fcb, 2, &[activity]);
+        self.damage_place(fcb);
+        self.ask(fcb, 4)?;
+        Ok(())
+    }
+
+    fn aim_next_slot(&mut self, fcb: usize) -> Checked<()> {
+        if self.random.chance(20) {
+            self.damage_directory();
+        }
+        self.set_block(fcb, 2, &[16]);
+        self.damage_place(fcb);
+        let mut left = self.random.between(1, 3);
+        while left > 0 && self.ask(fcb, 7)? == 0 {
+            left -= 1;
+        }
+        Ok(())
+    }
+
+    /// Delete, rename or open for read of a slot made for it, with counts at the limit, and another block at its place.
+    fn aim_file(&mut self, fcb: usize) -> Checked<()> {
+        let slot = self.findable_slot();
+        if self.random.chance(50) {
+            self.aim_counts(slot);
+        }
+        let other = self.random.below(BLOCKS);
+        if self.random.chance(60) {
+            let activity = self.random.one_of(&ACTIVITIES);
+            self.set_block(other, 47, &Scene::place(slot));
+            self.set_block(other, 2, &[activity]);
+        }
+        let idle = self.random.one_of(&[0, 0, 16]);
+        let (name, new) = (self.name_at(slot), self.any_name());
+        self.set_block(fcb, 2, &[idle]);
+        self.set_block(fcb, 4, &name);
+        self.set_block(fcb, 53, &new);
+        let code = self.random.one_of(&[12, 12, 12, 13, 13, 1, 2]);
+        self.ask(fcb, code)?;
+        Ok(())
+    }
+
+    /// A slot that a search gets to: a live one, or one invented where no never-used slot stands before it.
+    fn findable_slot(&mut self) -> usize {
+        let live = self.live_slots();
+        if !live.is_empty() && self.random.chance(40) {
+            return self.random.one_of(&live);
+        }
+        let first = 4 * 256 + 16;
+        let slot = first + 24 * self.random.below(4);
+        for before in (first..slot).step_by(24) {
+            if self.pair.image()[before] == 0 {
+                self.pair.poke_image(before, &[255]);
+            }
+        }
+        self.invent_slot(slot);
+        let name = Scene::numbered_name(self.random.below(1000));
+        if self.random.chance(50) {
+            self.pair.poke_image(slot, &name);
+        }
+        slot
+    }
+
+    /// Good addresses, mostly, and counts that sum up to 65,535 or one more.
+    fn aim_counts(&mut self, slot: usize) {
+        for at in [slot + 13, slot + 15, 541, 543] {
+            let address = if self.random.chance(80) { self.data_sector() } else { self.any_address() };
+            self.set_address(at, address);
+        }
+        let size = if self.random.chance(15) { 0 } else { self.random.between(1, 65535) };
+        let count = self.random.one_of(&[65535 - size, 65536 - size.max(1), 0, 1]);
+        self.set_word(slot + 17, size as u16);
+        self.set_word(545, count as u16);
+        if count == 0 && self.random.chance(50) {
+            self.set_address(543, (0, 7));
+        }
+        if self.random.chance(20) {
+            let last = self.information(31);
+            self.set_address(slot + 13, last);
+        }
+    }
+}

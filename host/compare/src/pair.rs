@@ -1,0 +1,212 @@
+//! The two services side by side, each on its own copy of both buffers. Every call is made on both; the answers and all
+//! bytes of both buffers must then be equal, margins included.
+
+use crate::lent::Lent;
+use crate::seen::{Seen, Surveyed};
+use crate::tally::{row_of_call, Tally, CENSUS, ERROR_TEXT, EXTENSION, PRESET};
+use std::collections::VecDeque;
+use std::fmt;
+
+/// A call that was made, with all that a repetition needs besides the buffers.
+#[derive(Clone, Copy, Debug)]
+#[allow(dead_code)] // the fields are printed
+pub enum Made {
+    Preset { table: usize, fcb: usize, offset: usize, value: u8 },
+    Extension { table: usize, fcb: usize, code: usize },
+    Call { image: usize, table: usize, fcb: usize, byte: u8, function: Option<u8>, activity: Option<u8> },
+    Census { image: usize, sectors: usize, owners: usize },
+    ErrorText { text: usize, number: u8 },
+}
+
+/// The two services differ.
+pub struct Mismatch(pub String);
+
+impl fmt::Display for Mismatch {
+    fn fmt(&self, f: &mut fmt::Formatter<'_>) -> fmt::Result {
+        f.write_str(&self.0)
+    }
+}
+
+pub type Checked<T> = Result<T, Mismatch>;
+
+struct Side {
+    image: Lent,
+    table: Lent,
+}
+
+pub struct Pair<'a> {
+    plain: Side,
+    proved: Side,
+    tally: &'a mut Tally,
+    recent: VecDeque<Made>,
+}
+
+/// How many calls are shown before one that differs.
+const SHOWN: usize = 12;
+
+impl<'a> Pair<'a> {
+    pub fn new(image: &[u8], table: &[u8], tally: &'a mut Tally) -> Pair<'a> {
+        let side = || Side { image: Lent::new(image), table: Lent::new(table) };
+        Pair { plain: side(), proved: side(), tally, recent: VecDeque::new() }
+    }
+
+    pub fn image(&self) -> &[u8] {
+        self.plain.image.bytes()
+    }
+
+    pub fn table(&self) -> &[u8] {
+        self.plain.table.bytes()
+    }
+
+    pub fn calls(&self) -> u64 {
+        self.tally.calls
+    }
+
+    /// The host may change what it owns between calls: the same on both sides.
+    pub fn poke_image(&mut self, at: usize, bytes: &[u8]) {
+        for side in [&mut self.plain, &mut self.proved] {
+            side.image.bytes_mut()[at..at + bytes.len()].copy_from_slice(bytes);
+        }
+    }
+
+    pub fn poke_table(&mut self, at: usize, bytes: &[u8]) {
+        for side in [&mut self.plain, &mut self.proved] {
+            side.table.bytes_mut()[at..at + bytes.len()].copy_from_slice(bytes);
+        }
+    }
+
+    pub fn preset(&mut self, fcb: usize, offset: usize, value: u8) -> Checked<u32> {
+        self.preset_lent(self.plain.table.len(), fcb, offset, value)
+    }
+
+    pub fn preset_lent(&mut self, table: usize, fcb: usize, offset: usize, value: u8) -> Checked<u32> {
+        let plain = reference::preset(self.plain.table.lend(table), fcb, offset, value);
+        let proved = flex::entry::preset(self.proved.table.lend(table), fcb, offset, value);
+        self.compare(Made::Preset { table, fcb, offset, value }, plain, proved)?;
+        self.tally.count(PRESET, plain);
+        Ok(plain)
+    }
+
+    pub fn extension(&mut self, fcb: usize, code: usize) -> Checked<u32> {
+        self.extension_lent(self.plain.table.len(), fcb, code)
+    }
+
+    pub fn extension_lent(&mut self, table: usize, fcb: usize, code: usize) -> Checked<u32> {
+        let plain = reference::extension(self.plain.table.lend(table), fcb, code);
+        let proved = flex::entry::extension(self.proved.table.lend(table), fcb, code);
+        self.compare(Made::Extension { table, fcb, code }, plain, proved)?;
+        self.tally.count(EXTENSION, plain);
+        Ok(plain)
+    }
+
+    /// The answer of a call.
+    pub fn call(&mut self, fcb: usize, byte: u8) -> Checked<u32> {
+        self.call_lent(self.plain.image.len(), self.plain.table.len(), fcb, byte)
+    }
+
+    /// The same with an image and a table of these lengths lent.
+    pub fn call_lent(&mut self, image: usize, table: usize, fcb: usize, byte: u8) -> Checked<u32> {
+        let row = row_of_call(self.plain.table.lend(table), fcb);
+        let before = Seen::before(self.plain.image.lend(image), self.plain.table.lend(table), fcb);
+        let plain = reference::call(self.plain.image.lend(image), self.plain.table.lend(table), fcb, byte);
+        let proved = flex::entry::call(self.proved.image.lend(image), self.proved.table.lend(table), fcb, byte);
+        let made = Made::Call {
+            image,
+            table,
+            fcb,
+            byte,
+            function: before.as_ref().map(|seen| seen.code),
+            activity: before.as_ref().map(|seen| seen.activity),
+        };
+        self.compare(made, plain, proved)?;
+        self.tally.count(row, plain / 256);
+        if let Some(seen) = before {
+            self.tally.note_call(&seen.after(plain / 256, self.plain.table.bytes()));
+        }
+        Ok(plain / 256)
+    }
+
+    /// The census with outputs of these lengths, filled with `filler` before.
+    pub fn census_lent(&mut self, image: usize, sectors: usize, owners: usize, filler: u8) -> Checked<u32> {
+        let mut plain = [Lent::new(&vec![filler; sectors]), Lent::new(&vec![filler; owners])];
+        let mut proved = plain.clone();
+        let surveyed = Surveyed::of(self.plain.image.lend(image));
+        let expected = {
+            let [list, owner] = &mut plain;
+            reference::census(self.plain.image.lend(image), list.lend(sectors), owner.lend(owners))
+        };
+        let answer = {
+            let [list, owner] = &mut proved;
+            flex::entry::census(self.proved.image.lend(image), list.lend(sectors), owner.lend(owners))
+        };
+        let made = Made::Census { image, sectors, owners };
+        self.compare(made, expected, answer)?;
+        self.compare_outputs(made, &plain, &proved)?;
+        self.tally.count(CENSUS, expected);
+        if let Some(surveyed) = surveyed {
+            self.tally.note_census(&surveyed, expected);
+        }
+        Ok(expected)
+    }
+
+    fn compare_outputs(&mut self, made: Made, plain: &[Lent; 2], proved: &[Lent; 2]) -> Checked<()> {
+        for (i, name) in ["sectors", "owners"].iter().enumerate() {
+            if let Some(difference) = plain[i].difference(&proved[i]) {
+                return Err(self.mismatch(made, describe(name, difference)));
+            }
+        }
+        Ok(())
+    }
+
+    pub fn error_text(&mut self, len: usize, number: u8, filler: u8) -> Checked<u32> {
+        let mut plain = Lent::new(&vec![filler; len]);
+        let mut proved = plain.clone();
+        let expected = reference::error_text(plain.lend(len), number);
+        let answer = flex::entry::error_text(proved.lend(len), number);
+        let made = Made::ErrorText { text: len, number };
+        self.compare(made, expected, answer)?;
+        if let Some(difference) = plain.difference(&proved) {
+            return Err(self.mismatch(made, describe("text", difference)));
+        }
+        self.tally.count(ERROR_TEXT, expected);
+        Ok(expected)
+    }
+
+    /// The answers, then both buffers whole.
+    fn compare(&mut self, made: Made, plain: u32, proved: u32) -> Checked<()> {
+        if self.recent.len() == SHOWN {
+            self.recent.pop_front();
+        }
+        self.recent.push_back(made);
+        if plain != proved {
+            let text = format!(
+                "answers: reference {} + {}, archive {} + {}",
+                plain / 256,
+                plain % 256,
+                proved / 256,
+                proved % 256
+            );
+            let small = format!("answers: reference {}, archive {}", plain, proved);
+            return Err(self.mismatch(made, if matches!(made, Made::Call { .. }) { text } else { small }));
+        }
+        if let Some(difference) = self.plain.image.difference(&self.proved.image) {
+            return Err(self.mismatch(made, describe("image", difference)));
+        }
+        if let Some(difference) = self.plain.table.difference(&self.proved.table) {
+            return Err(self.mismatch(made, describe("table", difference)));
+        }
+        Ok(())
+    }
+
+    fn mismatch(&self, made: Made, what: String) -> Mismatch {
+        let mut text = format!("the reference and the archive differ\n  in {:?}\n  {}\n  after the calls", made, what);
+        for earlier in &self.recent {
+            text.push_str(&format!("\n    {:?}", earlier));
+        }
+        Mismatch(text)
+    }
+}
+
+fn describe(buffer: &str, (at, plain, proved): (isize, u8, u8)) -> String {
+    format!("{} byte {}: reference {}, archive {}", buffer, at, plain, proved)
+}

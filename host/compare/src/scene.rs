@@ -1,0 +1,301 @@
+//! One diskette with its control blocks, and the small steps that the random runs are made of.
+
+use crate::pair::{Checked, Pair};
+use crate::random::Random;
+use flex::{BLOCK, BLOCKS};
+
+pub type Address = (u8, u8);
+pub type Name = [u8; 11];
+
+/// Names that many files share, so that searches hit, and some of them differ in case or length alone.
+const NAMES: [&Name; 10] = [
+    b"A\0\0\0\0\0\0\0TXT",
+    b"a\0\0\0\0\0\0\0TXT",
+    b"A\0\0\0\0\0\0\0TX\0",
+    b"AB\0\0\0\0\0\0TXT",
+    b"ALARM-1\0DAT",
+    b"ALARM-12DAT",
+    b"ALARM_12DAT",
+    b"Z9-_zaZAz9-",
+    b"PUMPS\0\0\0OUT",
+    b"x\0\0\0\0\0\0\0y\0\0",
+];
+
+/// Names that are not legal, each for another reason.
+const ILLEGAL: [&Name; 14] = [
+    b"9A\0\0\0\0\0\0TXT",
+    b"\0\0\0\0\0\0\0\0TXT",
+    b"A\0\0\0\0\0\0\0\0\0\0",
+    b"A\0B\0\0\0\0\0TXT",
+    b"A\0\0\0\0\0\0ATXT",
+    b"A\0\0\0\0\0\0\0T\0T",
+    b"-A\0\0\0\0\0\0TXT",
+    b"A B\0\0\0\0\0TXT",
+    b"A@[`{/:\0TXT",
+    b"A\0\0\0\0\0\0\x009XT",
+    b"A\0\0\0\0\0\0\0_XT",
+    b"A\0\0\0\0\0\0\0T.T",
+    b"\xc1\0\0\0\0\0\0\0TXT",
+    b"AAAAAAA\xffTXT",
+];
+
+/// Letters and the bytes around their ranges.
+const EDGES: &[u8] = b"\0-/09:@AZ[^_`az{\x7f\x80\xff";
+
+pub struct Scene<'a> {
+    pub pair: Pair<'a>,
+    pub random: Random,
+    /// M and S as the diskette was made.
+    pub last: usize,
+    pub per: usize,
+    /// The directory's sectors as it was made.
+    directory: Vec<usize>,
+    /// Whether transfers pass over the middle of each sector, so that long files take few calls.
+    skips: bool,
+}
+
+impl<'a> Scene<'a> {
+    pub fn new(pair: Pair<'a>, random: Random, last: usize, per: usize, directory: Vec<usize>) -> Scene<'a> {
+        Scene { pair, random, last, per, directory, skips: false }
+    }
+
+    /// From now on transfers pass over the middle of each sector.
+    pub fn skip(&mut self) {
+        self.skips = true;
+    }
+
+    // Looking.
+
+    pub fn block(&self, fcb: usize) -> &[u8] {
+        &self.pair.table()[fcb * BLOCK..(fcb + 1) * BLOCK]
+    }
+
+    pub fn activity(&self, fcb: usize) -> u8 {
+        self.block(fcb)[2]
+    }
+
+    /// A block with one of these activities if there is one, else any.
+    pub fn block_with(&mut self, activities: &[u8]) -> usize {
+        let fitting: Vec<usize> = (0..BLOCKS).filter(|&fcb| activities.contains(&self.activity(fcb))).collect();
+        if fitting.is_empty() {
+            self.random.below(BLOCKS)
+        } else {
+            self.random.one_of(&fitting)
+        }
+    }
+
+    /// Where a slot of track 0 begins: often a live one, mostly one that the directory reaches.
+    pub fn any_slot(&mut self) -> usize {
+        let live = self.live_slots();
+        if !live.is_empty() && self.random.chance(60) {
+            return self.random.one_of(&live);
+        }
+        let sector = if self.random.chance(90) {
+            let i = self.random.below(self.directory.len());
+            self.directory[i]
+        } else {
+            self.random.between(5, self.per)
+        };
+        (sector - 1) * 256 + 16 + 24 * self.random.below(10)
+    }
+
+    /// The live slots of track 0.
+    pub fn live_slots(&self) -> Vec<usize> {
+        let slots = self.directory.iter().flat_map(|&sector| (0..10).map(move |i| (sector - 1) * 256 + 16 + 24 * i));
+        slots.filter(|&slot| (1..128).contains(&self.pair.image()[slot])).collect()
+    }
+
+    pub fn place(slot: usize) -> [u8; 3] {
+        [0, (slot / 256 + 1) as u8, (slot % 256) as u8]
+    }
+
+    pub fn information(&self, at: usize) -> Address {
+        (self.pair.image()[512 + at], self.pair.image()[513 + at])
+    }
+
+    pub fn data_sector(&mut self) -> Address {
+        (self.random.between(1, self.last) as u8, self.random.between(1, self.per) as u8)
+    }
+
+    /// An address, good or bad.
+    pub fn any_address(&mut self) -> Address {
+        match self.random.below(13) {
+            0 => (0, 0),
+            1 => (0, 1),
+            2 => (0, 5),
+            3 => (self.last as u8, self.per as u8),
+            4 => (self.last as u8 + 1, 1),
+            5 => (1, 0),
+            6 => (self.last as u8, self.per as u8 + 1),
+            7 => (self.random.byte(), self.random.byte()),
+            8 => self.information(29),
+            9 => self.information(31),
+            _ => self.data_sector(),
+        }
+    }
+
+    /// A count or size, often at a limit.
+    pub fn any_count(&mut self) -> u16 {
+        let sectors = (self.last * self.per) as u16;
+        let random = self.random.next() as u16;
+        self.random.one_of(&[0, 1, 2, 3, sectors - 1, sectors, sectors + 1, 32767, 65534, 65535, random])
+    }
+
+    // Changing what the host owns.
+
+    pub fn set_block(&mut self, fcb: usize, at: usize, bytes: &[u8]) {
+        self.pair.poke_table(fcb * BLOCK + at, bytes);
+    }
+
+    pub fn set_block_address(&mut self, fcb: usize, at: usize, address: Address) {
+        self.set_block(fcb, at, &[address.0, address.1]);
+    }
+
+    pub fn set_address(&mut self, at: usize, address: Address) {
+        self.pair.poke_image(at, &[address.0, address.1]);
+    }
+
+    pub fn set_word(&mut self, at: usize, value: u16) {
+        self.pair.poke_image(at, &value.to_be_bytes());
+    }
+
+    /// M and S again as the diskette was made.
+    pub fn heal_shape(&mut self) {
+        self.pair.poke_image(550, &[self.last as u8, self.per as u8]);
+    }
+
+    /// The directory's links again as it was made.
+    pub fn heal_directory(&mut self) {
+        for i in 0..self.directory.len() {
+            let next = self.directory.get(i + 1).copied().unwrap_or(0);
+            self.set_address((self.directory[i] - 1) * 256, (0, next as u8));
+        }
+    }
+
+    /// Both buffers as they are now.
+    pub fn snapshot(&self) -> (Vec<u8>, Vec<u8>) {
+        (self.pair.image().to_vec(), self.pair.table().to_vec())
+    }
+
+    pub fn restore(&mut self, (image, table): (Vec<u8>, Vec<u8>)) {
+        self.pair.poke_image(0, &image);
+        self.pair.poke_table(0, &table);
+    }
+
+    /// A blank diskette again, directory and all.
+    pub fn reformat(&mut self) {
+        let image = diskettes::with_directory(self.last, self.per, &self.directory);
+        self.pair.poke_image(0, &image);
+    }
+
+    // Names.
+
+    pub fn legal_name(&mut self) -> Name {
+        let live = self.live_slots();
+        if !live.is_empty() && self.random.chance(50) {
+            let slot = self.random.one_of(&live);
+            return self.name_at(slot);
+        }
+        *self.random.one_of(&NAMES)
+    }
+
+    pub fn name_at(&self, slot: usize) -> Name {
+        let mut name = [0; 11];
+        name.copy_from_slice(&self.pair.image()[slot..slot + 11]);
+        name
+    }
+
+    /// A name that no file of the usual names has.
+    pub fn numbered_name(number: usize) -> Name {
+        let mut name = *b"F\0\0\0\0\0\0\0NUM";
+        let digits = format!("{}", number % 1000);
+        name[1..1 + digits.len()].copy_from_slice(digits.as_bytes());
+        name
+    }
+
+    pub fn any_name(&mut self) -> Name {
+        match self.random.below(20) {
+            0..=1 => *self.random.one_of(&ILLEGAL),
+            2 => self.name_of_edges(),
+            3 => Scene::numbered_name(self.random.below(1000)),
+            _ => self.legal_name(),
+        }
+    }
+
+    fn name_of_edges(&mut self) -> Name {
+        let mut name = *self.random.one_of(&NAMES);
+        let at = self.random.below(11);
+        name[at] = self.random.one_of(EDGES);
+        name
+    }
+
+    /// Eleven bytes into a block, as a host does it or at once.
+    pub fn give_name(&mut self, fcb: usize, at: usize, name: Name) -> Checked<()> {
+        if self.random.chance(10) {
+            for (i, &letter) in name.iter().enumerate() {
+                self.pair.preset(fcb, at + i, letter)?;
+            }
+        } else {
+            self.set_block(fcb, at, &name);
+        }
+        Ok(())
+    }
+
+    // Calls.
+
+    /// A function's code into byte 0, and the call.
+    pub fn ask(&mut self, fcb: usize, code: u8) -> Checked<u32> {
+        if self.random.chance(25) {
+            self.pair.preset(fcb, 0, code)?;
+        } else {
+            self.set_block(fcb, 0, &[code]);
+        }
+        let byte = self.random.byte();
+        self.pair.call(fcb, byte)
+    }
+
+    /// Function 0 up to n times, until refused, and sometimes once again then.
+    pub fn transfer(&mut self, fcb: usize, n: usize) -> Checked<()> {
+        self.set_block(fcb, 0, &[0]);
+        let mut left = n;
+        while left > 0 {
+            let byte = self.random.byte();
+            if self.pair.call(fcb, byte)? != 0 {
+                if self.random.chance(30) {
+                    self.pair.call(fcb, byte)?;
+                }
+                break;
+            }
+            left = (left - 1).saturating_sub(self.skipped(fcb));
+        }
+        Ok(())
+    }
+
+    /// Moves the index from near the start of a sector to near its end; how many bytes that passes over.
+    fn skipped(&mut self, fcb: usize) -> usize {
+        let index = self.block(fcb)[34];
+        if !self.skips || !(8..250).contains(&index) {
+            return 0;
+        }
+        self.set_block(fcb, 34, &[252]);
+        252 - index as usize
+    }
+
+    /// How many bytes to send or fetch: often around the ends of sectors.
+    pub fn burst(&mut self) -> usize {
+        match self.random.below(10) {
+            0..=5 => self.random.between(1, 6),
+            6 => self.random.between(250, 254),
+            7 => self.random.between(503, 506),
+            8 => self.random.between(7, 100),
+            _ => self.random.between(1, 600),
+        }
+    }
+
+    pub fn census(&mut self) -> Checked<u32> {
+        let bytes = 2 * self.last * self.per;
+        let filler = self.random.byte();
+        let image = self.pair.image().len();
+        self.pair.census_lent(image, bytes, bytes, filler)
+    }
+}

@@ -1,0 +1,208 @@
+//! What is tried in full and not at random: every shape and every shape just past the limits, every function code, every
+//! byte in every place of a name, every directory place, every attribute byte, every offset of preset, every code of a
+//! default extension, every number and length of the error text.
+
+use crate::pair::{Checked, Pair};
+use crate::random::Random;
+use crate::scene::Scene;
+use crate::tally::Tally;
+use flex::{BLOCK, TABLE};
+
+pub fn everything(tally: &mut Tally, seed: u64) -> Checked<()> {
+    let mut random = Random::new(seed);
+    error_texts(tally, &mut random)?;
+    presets(tally)?;
+    extensions(tally)?;
+    codes(tally)?;
+    letters(tally)?;
+    places(tally)?;
+    attributes(tally)?;
+    past_the_limits(tally)?;
+    shapes(tally, &mut random)
+}
+
+/// A small diskette with one file of one sector, A.TXT, in the first slot, and all blocks closed.
+fn small(tally: &mut Tally) -> Pair<'_> {
+    let mut image = diskettes::blank(2, 7);
+    image[4 * 256 + 16..][..19].copy_from_slice(b"A\0\0\0\0\0\0\0TXT\0\0\x02\x07\x02\x07\0\x01");
+    image[541..547].copy_from_slice(&[1, 1, 2, 6, 0, 13]);
+    image[diskettes::offset(7, 2, 6)..][..2].copy_from_slice(&[0, 0]);
+    Pair::new(&image, &[0; TABLE], tally)
+}
+
+/// Every code with every kind of activity, on drive 0 and on others.
+fn codes(tally: &mut Tally) -> Checked<()> {
+    let mut pair = small(tally);
+    pair.census_lent(pair.image().len(), 28, 28, 0)?;
+    for code in 0..=255 {
+        for activity in [0, 1, 2, 3, 15, 16, 17, 255] {
+            for drive in [0, 1, 128, 255] {
+                pair.poke_table(0, &[0; BLOCK]);
+                pair.poke_table(0, &[code, 77, activity, drive]);
+                pair.call(0, 0)?;
+            }
+        }
+    }
+    Ok(())
+}
+
+/// Every byte in every place of a name and of a new name, behind full and short words.
+fn letters(tally: &mut Tally) -> Checked<()> {
+    let mut pair = small(tally);
+    for name in [b"ABCDEFGHXYZ", b"A\0\0\0\0\0\0\0X\0\0"] {
+        for at in 0..11 {
+            for letter in 0..=255 {
+                let mut tried = *name;
+                tried[at] = letter;
+                pair.poke_table(0, &[1, 0, 0, 0]);
+                pair.poke_table(4, &tried);
+                pair.call(0, 0)?;
+                pair.poke_table(0, &[13, 0, 0, 0]);
+                pair.poke_table(4, b"B\0\0\0\0\0\0\0TXT");
+                pair.poke_table(53, &tried);
+                pair.call(0, 0)?;
+            }
+        }
+    }
+    Ok(())
+}
+
+/// Every value of each byte of a directory place, for the next slot, a sector to take and a close of an unwritten file.
+fn places(tally: &mut Tally) -> Checked<()> {
+    let mut pair = small(tally);
+    for right in [[0, 5, 16], [0, 7, 232], [0, 0, 0]] {
+        for at in 0..3 {
+            for value in 0..=255 {
+                let mut place = right;
+                place[at] = value;
+                for start in [[7, 0, 16], [0, 0, 2], [4, 0, 2]] {
+                    pair.poke_table(0, &[0; BLOCK]);
+                    pair.poke_table(0, &start);
+                    pair.poke_table(47, &place);
+                    pair.call(0, value)?;
+                }
+            }
+        }
+    }
+    Ok(())
+}
+
+/// Every attribute byte, for delete and rename; the file is there again each time.
+fn attributes(tally: &mut Tally) -> Checked<()> {
+    let mut pair = small(tally);
+    let image = pair.image().to_vec();
+    for attributes in 0..=255 {
+        for code in [12, 13, 1] {
+            pair.poke_image(0, &image);
+            pair.poke_image(4 * 256 + 16 + 11, &[attributes]);
+            pair.poke_table(0, &[code, 0, 0, 0]);
+            pair.poke_table(4, b"A\0\0\0\0\0\0\0TXT");
+            pair.poke_table(53, b"B\0\0\0\0\0\0\0TXT");
+            pair.call(0, 0)?;
+        }
+    }
+    Ok(())
+}
+
+fn error_texts(tally: &mut Tally, random: &mut Random) -> Checked<()> {
+    let mut pair = Pair::new(&[], &[], tally);
+    for number in 0..=255 {
+        for len in 0..=20 {
+            pair.error_text(len, number, random.byte())?;
+        }
+    }
+    Ok(())
+}
+
+/// Every offset of a block and of the one behind it, in every activity.
+fn presets(tally: &mut Tally) -> Checked<()> {
+    let mut pair = Pair::new(&diskettes::blank(1, 5), &[7; TABLE], tally);
+    for activity in [0, 1, 2, 3, 4, 15, 16, 17, 128, 144, 255] {
+        for fcb in [0, 6, 7] {
+            pair.poke_table(fcb * BLOCK + 2, &[activity]);
+            for offset in 0..2 * BLOCK {
+                pair.preset(fcb, offset, (offset % 251) as u8 + 1)?;
+            }
+        }
+    }
+    Ok(())
+}
+
+fn extensions(tally: &mut Tally) -> Checked<()> {
+    let mut pair = Pair::new(&diskettes::blank(1, 5), &[0; TABLE], tally);
+    for activity in [0, 1, 2, 3, 16, 255] {
+        for code in (0..=20).chain([255, 256, 65536, 1 << 32, usize::MAX]) {
+            for old in [[0, 0, 0], [0, 9, 9], [1, 0, 0], [255, 0, 0]] {
+                for fcb in [0, 3, 7] {
+                    pair.poke_table(fcb * BLOCK + 2, &[activity]);
+                    pair.poke_table(fcb * BLOCK + 12, &old);
+                    pair.extension(fcb, code)?;
+                }
+            }
+        }
+    }
+    Ok(())
+}
+
+/// Images whose length fits their M and S, where M or S is one past a limit: all is refused.
+fn past_the_limits(tally: &mut Tally) -> Checked<()> {
+    let wide = (4..=37).map(|per| (80, per)).chain((4..=37).map(|per| (0, per)));
+    let tall = (1..=79).map(|last| (last, 4)).chain((1..=79).map(|last| (last, 37)));
+    for (last, per) in wide.chain(tall) {
+        let mut image = vec![0; (last + 1) * per * 256];
+        if image.len() > 552 {
+            image[550] = last as u8;
+            image[551] = per as u8;
+        }
+        let mut pair = Pair::new(&image, &[0; TABLE], tally);
+        for code in [0, 1, 2, 3, 4, 5, 6, 7, 9, 12, 13] {
+            pair.poke_table(0, &[code]);
+            pair.call(0, 0)?;
+        }
+        let bytes = 2 * last * per;
+        pair.census_lent(image.len(), bytes, bytes, 1)?;
+    }
+    Ok(())
+}
+
+/// On every diskette: a file, the last sector and the ones that do not exist, the end of the directory, the census.
+fn shapes(tally: &mut Tally, random: &mut Random) -> Checked<()> {
+    for last in 1..=79 {
+        for per in 5..=36 {
+            let upward: Vec<usize> = (5..=per).collect();
+            let pair = Pair::new(&diskettes::blank(last, per), &[0; TABLE], tally);
+            shape(&mut Scene::new(pair, Random::new(random.next()), last, per, upward))?;
+        }
+    }
+    Ok(())
+}
+
+fn shape(scene: &mut Scene) -> Checked<()> {
+    let (last, per) = (scene.last as u8, scene.per as u8);
+    scene.census()?;
+    scene.set_block(0, 4, b"LAST\0\0\0\0TXT");
+    // The last sector is made the first free one, so that a file reaches both ends of the data tracks.
+    scene.set_address(541, (last, per));
+    scene.ask(0, 2)?;
+    scene.transfer(0, 1)?;
+    scene.set_address(541, (1, 1));
+    scene.set_block(0, 34, &[255]);
+    scene.transfer(0, 2)?;
+    scene.ask(0, 4)?;
+    scene.census()?;
+    scene.ask(0, 1)?;
+    scene.transfer(0, 1)?;
+    scene.set_block(0, 34, &[0]);
+    scene.transfer(0, 1)?;
+    for address in [(last, per), (last, per + 1), (last + 1, 1), (last, 0), (0, per), (0, 1)] {
+        scene.set_block_address(1, 30, address);
+        scene.ask(1, 9)?;
+    }
+    scene.ask(2, 6)?;
+    scene.set_block(2, 47, &[0, per, 232]);
+    scene.ask(2, 7)?;
+    scene.set_block(0, 2, &[0]);
+    scene.ask(0, 12)?;
+    scene.census()?;
+    Ok(())
+}

@@ -1,0 +1,139 @@
+//! What the run has reached: each answer of each function, and the situations that are easy to get wrong.
+
+use crate::seen::{After, Surveyed, CALL_SITUATIONS, CENSUS_SITUATIONS};
+use std::fmt::Write;
+
+/// Each function with every answer that document 01 lets it give, in its order: each must occur, and no other may.
+const EXPECTED: [(&str, &[u32]); 18] = [
+    ("preset", &[13, 18, 0]),
+    ("default extension", &[13, 0]),
+    ("error text", &[40, 0]),
+    ("census", &[41, 40, 42, 43, 44, 45, 46, 0]),
+    ("call, no such table or block", &[13]),
+    ("call, code not served", &[16, 1]),
+    ("0 reading", &[16, 8, 9, 0]),
+    ("0 writing", &[16, 5, 10, 7, 0]),
+    ("0 neither", &[16, 18]),
+    ("1 open read", &[16, 18, 21, 5, 4, 2, 0]),
+    ("2 open write", &[16, 18, 21, 5, 3, 6, 0]),
+    ("4 close", &[16, 18, 13, 5, 10, 0]),
+    ("5 rewind", &[16, 18, 0]),
+    ("6 open directory", &[16, 18, 0]),
+    ("7 next slot", &[16, 18, 5, 8, 0]),
+    ("9 read sector", &[16, 18, 9, 0]),
+    ("12 delete", &[16, 18, 21, 5, 4, 2, 12, 11, 9, 0]),
+    ("13 rename", &[16, 18, 21, 5, 4, 2, 11, 3, 0]),
+];
+
+pub const PRESET: usize = 0;
+pub const EXTENSION: usize = 1;
+pub const ERROR_TEXT: usize = 2;
+pub const CENSUS: usize = 3;
+
+/// The row of an FMS call, by the block as the call finds it.
+pub fn row_of_call(table: &[u8], fcb: usize) -> usize {
+    if table.len() != flex::TABLE || fcb >= flex::BLOCKS {
+        return 4;
+    }
+    let block = &table[fcb * flex::BLOCK..];
+    match (block[0], block[2]) {
+        (0, 1) => 6,
+        (0, 2) => 7,
+        (0, _) => 8,
+        (1, _) => 9,
+        (2, _) => 10,
+        (4, _) => 11,
+        (5, _) => 12,
+        (6, _) => 13,
+        (7, _) => 14,
+        (9, _) => 15,
+        (12, _) => 16,
+        (13, _) => 17,
+        _ => 5,
+    }
+}
+
+pub struct Tally {
+    pub calls: u64,
+    /// By row and answer; no answer is over 46, and a larger one counts as 63.
+    answers: [[u64; 64]; EXPECTED.len()],
+    call_situations: Vec<u64>,
+    census_situations: Vec<u64>,
+}
+
+impl Tally {
+    pub fn new() -> Tally {
+        Tally {
+            calls: 0,
+            answers: [[0; 64]; EXPECTED.len()],
+            call_situations: vec![0; CALL_SITUATIONS.len()],
+            census_situations: vec![0; CENSUS_SITUATIONS.len()],
+        }
+    }
+
+    pub fn count(&mut self, row: usize, answer: u32) {
+        self.calls += 1;
+        self.answers[row][answer.min(63) as usize] += 1;
+    }
+
+    pub fn note_call(&mut self, after: &After) {
+        for (count, (_, met)) in self.call_situations.iter_mut().zip(CALL_SITUATIONS) {
+            *count += met(after) as u64;
+        }
+    }
+
+    pub fn note_census(&mut self, surveyed: &Surveyed, answer: u32) {
+        for (count, (_, met)) in self.census_situations.iter_mut().zip(CENSUS_SITUATIONS) {
+            *count += met(surveyed, answer) as u64;
+        }
+    }
+
+    /// Answers by function, as "answer ×count".
+    pub fn answers(&self) -> String {
+        let mut text = String::new();
+        for (row, (name, expected)) in EXPECTED.iter().enumerate() {
+            let _ = write!(text, "  {:29}", name);
+            for &answer in *expected {
+                let _ = write!(text, " {}×{}", answer, self.answers[row][answer as usize]);
+            }
+            text.push('\n');
+        }
+        text
+    }
+
+    fn situations(&self) -> impl Iterator<Item = (&'static str, u64)> + '_ {
+        let of_calls = CALL_SITUATIONS.iter().map(|row| row.0).zip(self.call_situations.iter().copied());
+        let of_census = CENSUS_SITUATIONS.iter().map(|row| row.0).zip(self.census_situations.iter().copied());
+        of_calls.chain(of_census)
+    }
+
+    /// Each situation with its count.
+    pub fn situations_text(&self) -> String {
+        self.situations().map(|(name, count)| format!("  {:9}  {}\n", count, name)).collect()
+    }
+
+    pub fn situations_count(&self) -> usize {
+        self.situations().count()
+    }
+
+    /// What should have occurred and did not, or the reverse.
+    pub fn faults(&self) -> Vec<String> {
+        let mut faults = Vec::new();
+        for (row, (name, expected)) in EXPECTED.iter().enumerate() {
+            for answer in 0..64 {
+                let wanted = expected.contains(&answer);
+                let met = self.answers[row][answer as usize] > 0;
+                match (wanted, met) {
+                    (true, false) => faults.push(format!("{}: the answer {} did not occur", name, answer)),
+                    (false, true) => {
+                        faults.push(format!("{}: the answer {} is not one of document 01's", name, answer))
+                    }
+                    _ => (),
+                }
+            }
+        }
+        let missed = self.situations().filter(|row| row.1 == 0);
+        faults.extend(missed.map(|(name, _)| format!("did not occur: {}", name)));
+        faults
+    }
+}

@@ -1,0 +1,244 @@
+//! What a host does: files written, read, deleted and renamed, the directory walked, and calls with wrong lengths and numbers.
+
+use crate::pair::Checked;
+use crate::scene::Scene;
+use flex::{BLOCK, BLOCKS, TABLE};
+
+const IDLE: &[u8] = &[0, 16];
+
+/// Numbers of blocks that do not exist; some of them times 320 wrap around to a small number.
+const NO_BLOCKS: [usize; 7] = [8, 9, 255, 256, usize::MAX, usize::MAX / BLOCK + 1, 1 << 32];
+
+/// Offsets and codes past every limit.
+const PAST: [usize; 6] = [320, 65536, 1 << 32, (1 << 32) + 4, usize::MAX, usize::MAX - BLOCK + 1];
+
+impl Scene<'_> {
+    /// One thing that a host would do.
+    pub fn work(&mut self) -> Checked<()> {
+        match self.random.below(33) {
+            0..=5 => self.write_file(),
+            6..=8 => self.write_on(),
+            9..=12 => self.read_file(),
+            13..=14 => self.read_on(),
+            15..=17 => self.delete_file(),
+            18..=20 => self.rename_file(),
+            21 => self.walk_directory(),
+            22 => self.read_sector(),
+            23..=24 => self.survey(),
+            25..=26 => self.close(),
+            27 => self.rewind(),
+            28 => self.fill(),
+            29 => self.fiddle(),
+            30..=31 => self.any_function(),
+            _ => self.wrong_lengths(),
+        }
+    }
+
+    fn write_file(&mut self) -> Checked<()> {
+        let fcb = self.block_with(IDLE);
+        let name = self.any_name();
+        self.give_name(fcb, 4, name)?;
+        let date = [self.random.byte(), self.random.byte(), self.random.byte()];
+        self.set_block(fcb, 25, &date);
+        if self.ask(fcb, 2)? != 0 || self.random.chance(15) {
+            return Ok(());
+        }
+        if self.random.chance(90) {
+            let n = self.burst();
+            self.transfer(fcb, n)?;
+        }
+        if self.random.chance(70) {
+            self.ask(fcb, 4)?;
+        }
+        Ok(())
+    }
+
+    fn write_on(&mut self) -> Checked<()> {
+        let fcb = self.block_with(&[2]);
+        let n = self.burst();
+        self.transfer(fcb, n)
+    }
+
+    fn read_file(&mut self) -> Checked<()> {
+        let fcb = self.block_with(IDLE);
+        let name = self.any_name();
+        self.give_name(fcb, 4, name)?;
+        if self.ask(fcb, 1)? == 0 && self.random.chance(80) {
+            let n = self.burst();
+            self.transfer(fcb, n)?;
+        }
+        if self.random.chance(50) {
+            self.ask(fcb, 4)?;
+        }
+        Ok(())
+    }
+
+    fn read_on(&mut self) -> Checked<()> {
+        let fcb = self.block_with(&[1]);
+        let n = self.burst();
+        self.transfer(fcb, n)
+    }
+
+    fn delete_file(&mut self) -> Checked<()> {
+        let fcb = self.block_with(IDLE);
+        let name = self.any_name();
+        self.give_name(fcb, 4, name)?;
+        self.ask(fcb, 12)?;
+        Ok(())
+    }
+
+    fn rename_file(&mut self) -> Checked<()> {
+        let fcb = self.block_with(IDLE);
+        let old = self.any_name();
+        let new = if self.random.chance(20) { old } else { self.any_name() };
+        self.give_name(fcb, 4, old)?;
+        if self.random.chance(90) {
+            self.give_name(fcb, 53, new)?;
+        }
+        self.ask(fcb, 13)?;
+        Ok(())
+    }
+
+    /// From the first slot or from where the block is, some slots or all of them.
+    fn walk_directory(&mut self) -> Checked<()> {
+        let fcb = self.block_with(IDLE);
+        if self.activity(fcb) != 16 || self.random.chance(50) {
+            self.ask(fcb, 6)?;
+        }
+        let most = if self.random.chance(30) { 10 * self.per } else { self.random.between(1, 12) };
+        for _ in 0..most {
+            if self.ask(fcb, 7)? != 0 {
+                break;
+            }
+        }
+        if self.random.chance(40) {
+            self.ask(fcb, 4)?;
+        }
+        Ok(())
+    }
+
+    fn read_sector(&mut self) -> Checked<()> {
+        let fcb = self.block_with(IDLE);
+        let address = self.any_address();
+        self.pair.preset(fcb, 30, address.0)?;
+        self.pair.preset(fcb, 31, address.1)?;
+        self.ask(fcb, 9)?;
+        Ok(())
+    }
+
+    /// The census, sometimes with an image or outputs of wrong lengths.
+    pub fn survey(&mut self) -> Checked<()> {
+        self.census()?;
+        if self.random.chance(30) {
+            let right = 2 * self.last * self.per;
+            let lengths = [right, right - 1, right + 1, right - 2, right + 2, right / 2, 0, 1];
+            let (sectors, owners) = (self.random.one_of(&lengths), self.random.one_of(&lengths));
+            let image = self.image_length();
+            let filler = self.random.byte();
+            self.pair.census_lent(image, sectors, owners, filler)?;
+        }
+        Ok(())
+    }
+
+    fn close(&mut self) -> Checked<()> {
+        let fcb = self.block_with(&[1, 2, 16]);
+        self.ask(fcb, 4)?;
+        Ok(())
+    }
+
+    fn rewind(&mut self) -> Checked<()> {
+        let fcb = self.block_with(&[1]);
+        if self.ask(fcb, 5)? == 0 {
+            let n = self.burst();
+            self.transfer(fcb, n)?;
+        }
+        Ok(())
+    }
+
+    /// The diskette or the directory until it is full.
+    fn fill(&mut self) -> Checked<()> {
+        if self.random.chance(50) || self.last * self.per > 20 {
+            return self.fill_directory();
+        }
+        let fcb = self.block_with(&[2]);
+        let n = self.last * self.per * 252 + 2;
+        self.transfer(fcb, n)
+    }
+
+    /// One-byte files until there is no slot or no sector, or a few of them unwritten.
+    fn fill_directory(&mut self) -> Checked<()> {
+        let fcb = self.block_with(IDLE);
+        let first = self.random.below(1000);
+        for i in 0..10 * (self.per - 4) + 1 {
+            self.set_block(fcb, 4, &Scene::numbered_name(first + i));
+            if self.ask(fcb, 2)? != 0 {
+                break;
+            }
+            self.transfer(fcb, 1)?;
+            self.ask(fcb, 4)?;
+        }
+        Ok(())
+    }
+
+    /// Presets and default extensions, allowed or not.
+    fn fiddle(&mut self) -> Checked<()> {
+        let fcb = self.random.below(BLOCKS);
+        for _ in 0..self.random.between(1, 4) {
+            let offset = self.random.below(80);
+            let value = self.random.byte();
+            // The drive is put right again, or every later call on the block would be refused for it.
+            self.pair.preset(fcb, offset, if offset == 3 { 0 } else { value })?;
+        }
+        if self.random.chance(50) {
+            self.pair.preset(fcb, 12, 0)?;
+        }
+        let code = self.random.below(14);
+        self.pair.extension(fcb, code)?;
+        Ok(())
+    }
+
+    /// Any code on any block, and sometimes another drive for this one call.
+    pub fn any_function(&mut self) -> Checked<()> {
+        let fcb = self.random.below(BLOCKS);
+        let other_drive = self.random.chance(25);
+        if other_drive {
+            let drive = self.random.between(1, 255) as u8;
+            self.set_block(fcb, 3, &[drive]);
+        }
+        let any = self.random.byte();
+        let code = self
+            .random
+            .one_of(&[0, 1, 2, 4, 5, 6, 7, 9, 12, 13, 0, 1, 2, 4, 5, 6, 7, 9, 12, 13, 3, 8, 10, 11, 14, any]);
+        self.ask(fcb, code)?;
+        if other_drive {
+            self.set_block(fcb, 3, &[0]);
+        }
+        Ok(())
+    }
+
+    fn image_length(&mut self) -> usize {
+        let right = self.pair.image().len();
+        self.random.one_of(&[right, right, right, right - 1, right + 1, right - 256, right + 256, 0, 551, 552])
+    }
+
+    fn table_length(&mut self) -> usize {
+        self.random.one_of(&[TABLE, TABLE, TABLE, TABLE - 1, TABLE + 1, TABLE - BLOCK, TABLE + BLOCK, 0, BLOCK])
+    }
+
+    /// Lengths and numbers that are refused before anything else.
+    pub fn wrong_lengths(&mut self) -> Checked<()> {
+        for _ in 0..4 {
+            let number = self.random.one_of(&NO_BLOCKS);
+            let fcb = self.random.below(BLOCKS);
+            let fcb = if self.random.chance(30) { number } else { fcb };
+            let (image, table) = (self.image_length(), self.table_length());
+            let byte = self.random.byte();
+            let offset = self.random.below(64);
+            let past = self.random.one_of(&PAST);
+            self.pair.call_lent(image, table, fcb, byte)?;
+            self.pair.preset_lent(table, fcb, if offset == 3 { past } else { offset }, byte)?;
+            self.pair.extension_lent(table, fcb, if offset < 16 { offset } else { past })?;
+        }
+        Ok(())
+    }
+}

@@ -1,0 +1,136 @@
+/*
+ * A C host: makes the five-sector diskette of document 01, writes a file, reads it back, shows what a refusal looks like, and
+ * takes the census. It checks what it gets and ends with status 0 if all is as promised.
+ *
+ * cc -I host host/example.c target/staticlib/libflex.a -o example
+ */
+#include <stdio.h>
+#include <stdlib.h>
+#include <string.h>
+
+#include "flex.h"
+
+enum { LAST = 1, PER = 5, IMAGE_BYTES = (LAST + 1) * PER * 256, DATA_SECTORS = LAST * PER };
+
+static uint8_t image[IMAGE_BYTES];
+static uint8_t table[FLEX_TABLE_BYTES];
+
+static void fail(const char *what) {
+    fprintf(stderr, "example: %s\n", what);
+    exit(1);
+}
+
+/* All sectors of track 1 in the free chain, one directory sector at (0, 5): document 01, "Image". */
+static void make_blank(void) {
+    uint8_t *information = image + 2 * 256;
+    int s;
+    for (s = 1; s < PER; s++) {
+        image[(PER + s - 1) * 256] = 1;
+        image[(PER + s - 1) * 256 + 1] = (uint8_t)(s + 1);
+    }
+    information[29] = 1;
+    information[30] = 1;
+    information[31] = 1;
+    information[32] = PER;
+    information[34] = PER;
+    information[38] = LAST;
+    information[39] = PER;
+}
+
+/* The answer of one function on block 0. */
+static uint32_t ask(uint8_t function) {
+    if (flex_preset(table, sizeof table, 0, FLEX_FUNCTION, function) != FLEX_DONE) {
+        fail("the preset of a function was refused");
+    }
+    return FLEX_ANSWER(flex_call(image, sizeof image, table, sizeof table, 0, 0));
+}
+
+/* A name of up to eight letters, and the extension TXT (code 1). */
+static void name(const char *text) {
+    size_t i;
+    size_t used = strlen(text);
+    for (i = 0; i < 11; i++) {
+        uint8_t letter = i < used ? (uint8_t)text[i] : 0;
+        if (flex_preset(table, sizeof table, 0, FLEX_NAME + i, letter) != FLEX_DONE) {
+            fail("the preset of a name was refused");
+        }
+    }
+    flex_extension(table, sizeof table, 0, 1);
+}
+
+static void write_file(const char *text) {
+    size_t i;
+    name("ALARM");
+    if (ask(FLEX_OPEN_WRITE) != FLEX_DONE) {
+        fail("open for write was refused");
+    }
+    for (i = 0; i < strlen(text); i++) {
+        if (flex_call(image, sizeof image, table, sizeof table, 0, (uint8_t)text[i]) != FLEX_DONE) {
+            fail("a byte was refused");
+        }
+    }
+    if (ask(FLEX_CLOSE) != FLEX_DONE) {
+        fail("close was refused");
+    }
+    printf("ALARM.TXT written: %lu bytes\n", (unsigned long)strlen(text));
+}
+
+/* The bytes come back, then zeros to the end of the sector, then 8. */
+static void read_file(const char *text) {
+    size_t count = 0;
+    uint32_t packed;
+    name("ALARM");
+    if (ask(FLEX_OPEN_READ) != FLEX_DONE) {
+        fail("open for read was refused");
+    }
+    while (FLEX_ANSWER(packed = flex_call(image, sizeof image, table, sizeof table, 0, 0)) == FLEX_DONE) {
+        uint8_t expected = count < strlen(text) ? (uint8_t)text[count] : 0;
+        if (FLEX_BYTE(packed) != expected) {
+            fail("another byte came back");
+        }
+        count++;
+    }
+    if (FLEX_ANSWER(packed) != FLEX_AT_END || ask(FLEX_CLOSE) != FLEX_DONE) {
+        fail("the file has no end");
+    }
+    printf("ALARM.TXT read back: %lu bytes with the zeros of its last sector\n", (unsigned long)count);
+}
+
+static void be_refused(void) {
+    uint8_t text[16] = {0};
+    uint32_t answer;
+    name("NONE");
+    answer = ask(FLEX_OPEN_READ);
+    if (answer != FLEX_NOT_FOUND || table[FLEX_ERROR] != FLEX_NOT_FOUND) {
+        fail("a file that does not exist was found");
+    }
+    flex_error_text(text, sizeof text - 1, (uint8_t)answer);
+    printf("NONE.TXT: %s\n", (const char *)text);
+}
+
+static void take_census(void) {
+    uint8_t sectors[2 * DATA_SECTORS];
+    uint8_t owners[2 * DATA_SECTORS];
+    int i;
+    if (flex_census(image, sizeof image, sectors, sizeof sectors, owners, sizeof owners) != FLEX_DONE) {
+        fail("the census refused");
+    }
+    for (i = 0; i < DATA_SECTORS; i++) {
+        int sector = 256 * sectors[2 * i] + sectors[2 * i + 1];
+        int owner = 256 * owners[2 * i] + owners[2 * i + 1];
+        printf("sector %d %s %d\n", sector, owner == 0 ? "free" : "in slot", owner);
+    }
+}
+
+int main(void) {
+    const char *text =
+        "22:41 PUMP 3 RUNS DRY\n22:41 PUMP 3 STOPPED\n22:58 COOLING TOWER LEVEL LOW\n23:07 PUMP 3 STARTED BY HAND\n"
+        "02:15 DOOR 7 OPEN LONGER THAN 5 MINUTES\n02:19 DOOR 7 CLOSED\n03:33 BOILER 2 PRESSURE HIGH\n"
+        "03:33 BOILER 2 VALVE OPENED\n03:40 BOILER 2 PRESSURE NORMAL\n05:02 MAINS FAILED\n05:06 MAINS BACK\n";
+    make_blank();
+    write_file(text);
+    read_file(text);
+    be_refused();
+    take_census();
+    return 0;
+}

@@ -1,0 +1,41 @@
+//! The main job on the demo diskette, told step by step. Each step goes through the image file, as a command would.
+
+use crate::{census, change, date, delete, get, list, print, typed, Failure};
+use std::path::Path;
+
+const NAME: &str = "NIGHT.TXT";
+const LINES: &str = "\
+22:41 PUMP 3 RUNS DRY
+22:41 PUMP 3 STOPPED
+22:58 COOLING TOWER LEVEL LOW
+23:07 PUMP 3 STARTED BY HAND
+02:15 DOOR 7 OPEN LONGER THAN 5 MINUTES
+02:19 DOOR 7 CLOSED
+03:33 BOILER 2 PRESSURE HIGH
+03:33 BOILER 2 VALVE OPENED
+03:40 BOILER 2 PRESSURE NORMAL
+05:02 MAINS FAILED, RUNNING ON BATTERY
+05:06 MAINS BACK
+";
+
+pub fn run(image: &Path) -> Result<(), Failure> {
+    say(&format!("The demo diskette, {}. Its directory:", image.display()))?;
+    list(image)?;
+    say("Its census: every sector is free or in one file.")?;
+    census(image)?;
+    say(&format!("Write {}, {} bytes, one call a byte:", NAME, LINES.len()))?;
+    let name = typed(NAME)?;
+    change(image, NAME, |diskette| diskette.put(&name, LINES.as_bytes(), date::today()))?;
+    list(image)?;
+    census(image)?;
+    say(&format!("Read {} back, without the zeros that fill its last sector:", NAME))?;
+    get(image, NAME, true)?;
+    say(&format!("Delete {}. Its sectors hang behind the free chain:", NAME))?;
+    delete(image, NAME)?;
+    list(image)?;
+    census(image)
+}
+
+fn say(line: &str) -> Result<(), Failure> {
+    print(format!("\n{}\n", line).as_bytes())
+}

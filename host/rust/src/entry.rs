@@ -1,0 +1,46 @@
+//! The five entries on numbers and slices, with the archive's own answers. The only unsafe code of the host is here.
+//!
+//! Each call is safe for every input: the archive is proved to stay inside the slices that it is lent and to end, whatever
+//! they hold and however long they are, and two `&mut` slices can't overlap, which is all that a host owes it.
+
+extern "C" {
+    fn flex_preset(table: *mut u8, table_len: usize, fcb: usize, offset: usize, value: u8) -> u32;
+    fn flex_extension(table: *mut u8, table_len: usize, fcb: usize, code: usize) -> u32;
+    fn flex_call(image: *mut u8, image_len: usize, table: *mut u8, table_len: usize, fcb: usize, byte: u8) -> u32;
+    fn flex_census(
+        image: *const u8,
+        image_len: usize,
+        sectors: *mut u8,
+        sectors_len: usize,
+        owners: *mut u8,
+        owners_len: usize,
+    ) -> u32;
+    fn flex_error_text(text: *mut u8, text_len: usize, number: u8) -> u32;
+}
+
+/// The answer: 0, 13 or 18.
+pub fn preset(table: &mut [u8], fcb: usize, offset: usize, value: u8) -> u32 {
+    unsafe { flex_preset(table.as_mut_ptr(), table.len(), fcb, offset, value) }
+}
+
+/// The answer: 0 or 13.
+pub fn extension(table: &mut [u8], fcb: usize, code: usize) -> u32 {
+    unsafe { flex_extension(table.as_mut_ptr(), table.len(), fcb, code) }
+}
+
+/// 256 times the answer plus the byte.
+pub fn call(image: &mut [u8], table: &mut [u8], fcb: usize, byte: u8) -> u32 {
+    unsafe { flex_call(image.as_mut_ptr(), image.len(), table.as_mut_ptr(), table.len(), fcb, byte) }
+}
+
+/// The answer: 0 or 40 to 46.
+pub fn census(image: &[u8], sectors: &mut [u8], owners: &mut [u8]) -> u32 {
+    unsafe {
+        flex_census(image.as_ptr(), image.len(), sectors.as_mut_ptr(), sectors.len(), owners.as_mut_ptr(), owners.len())
+    }
+}
+
+/// The answer: 0 or 40.
+pub fn error_text(text: &mut [u8], number: u8) -> u32 {
+    unsafe { flex_error_text(text.as_mut_ptr(), text.len(), number) }
+}

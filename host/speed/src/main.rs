@@ -1,0 +1,165 @@
+//! Times the proved archive beside the straightforward Rust of the reference, in one run and on equal buffers.
+//!
+//! A 35×10 diskette is filled by single calls and read back; a census is taken of 35×10 and of 79×36. The two take turns,
+//! every round starts from buffers that are cleared and made anew, and of all rounds the quickest counts, since what else
+//! the machine does can only slow one down. Both are called through a pointer to a function that is not inlined.
+
+use std::env;
+use std::process::ExitCode;
+use std::time::{Duration, Instant};
+
+type Call = fn(&mut [u8], &mut [u8], usize, u8) -> u32;
+type Census = fn(&[u8], &mut [u8], &mut [u8]) -> u32;
+
+#[derive(Clone, Copy)]
+struct Service {
+    call: Call,
+    census: Census,
+}
+
+#[inline(never)]
+fn plain_call(image: &mut [u8], table: &mut [u8], fcb: usize, byte: u8) -> u32 {
+    reference::call(image, table, fcb, byte)
+}
+
+#[inline(never)]
+fn plain_census(image: &[u8], sectors: &mut [u8], owners: &mut [u8]) -> u32 {
+    reference::census(image, sectors, owners)
+}
+
+#[inline(never)]
+fn proved_call(image: &mut [u8], table: &mut [u8], fcb: usize, byte: u8) -> u32 {
+    flex::entry::call(image, table, fcb, byte)
+}
+
+#[inline(never)]
+fn proved_census(image: &[u8], sectors: &mut [u8], owners: &mut [u8]) -> u32 {
+    flex::entry::census(image, sectors, owners)
+}
+
+const PLAIN: Service = Service { call: plain_call, census: plain_census };
+const PROVED: Service = Service { call: proved_call, census: proved_census };
+
+fn main() -> ExitCode {
+    let rounds = match env::args().nth(1).map(|word| word.parse()) {
+        None => 30,
+        Some(Ok(rounds)) if rounds > 0 => rounds,
+        Some(_) => {
+            eprintln!("usage: speed [ROUNDS]");
+            return ExitCode::from(2);
+        }
+    };
+    println!("time for a sector, best of {} rounds          libflex.a  plain Rust   ratio", rounds);
+    transfers(rounds, 35, 10);
+    censuses(rounds, 35, 10);
+    censuses(rounds, 79, 36);
+    ExitCode::SUCCESS
+}
+
+fn transfers(rounds: usize, last: usize, per: usize) {
+    let mut best = [[Duration::MAX; 2]; 2];
+    for _ in 0..rounds {
+        let (plain, plain_image) = fill_and_read(PLAIN, last, per);
+        let (proved, proved_image) = fill_and_read(PROVED, last, per);
+        assert!(plain_image == proved_image, "the two filled diskettes differ");
+        for i in 0..2 {
+            best[0][i] = best[0][i].min(proved[i]);
+            best[1][i] = best[1][i].min(plain[i]);
+        }
+    }
+    let sectors = last * per;
+    print_row(&format!("fill {}×{}, {} single calls", last, per, sectors * 252), sectors, best[0][0], best[1][0]);
+    print_row("read it back by single calls", sectors, best[0][1], best[1][1]);
+}
+
+/// The times for filling a blank diskette with one file and for reading that back, and the image.
+fn fill_and_read(service: Service, last: usize, per: usize) -> ([Duration; 2], Vec<u8>) {
+    let mut image = diskettes::blank(last, per);
+    let mut table = vec![0; flex::TABLE];
+    ask(service, &mut image, &mut table, 0, flex::OPEN_WRITE);
+    let began = Instant::now();
+    let mut sent = 0usize;
+    while (service.call)(&mut image, &mut table, 0, sent as u8) == 0 {
+        sent += 1;
+    }
+    let filled = began.elapsed();
+    ask(service, &mut image, &mut table, 0, flex::CLOSE);
+    ask(service, &mut image, &mut table, 0, flex::OPEN_READ);
+    let began = Instant::now();
+    let mut fetched = 0usize;
+    loop {
+        let packed = (service.call)(&mut image, &mut table, 0, 0);
+        if packed > 255 || packed as u8 != fetched as u8 {
+            break;
+        }
+        fetched += 1;
+    }
+    let read = began.elapsed();
+    assert_eq!((sent, fetched), (last * per * 252, last * per * 252), "the diskette was not filled and read back");
+    ([filled, read], image)
+}
+
+/// A call of a function on a block with a name of its own.
+fn ask(service: Service, image: &mut [u8], table: &mut [u8], fcb: usize, function: u8) {
+    let f = fcb * flex::BLOCK;
+    table[f] = function;
+    table[f + 4..f + 15].copy_from_slice(b"FILE-A\0\0DAT");
+    table[f + 9] += fcb as u8;
+    let packed = (service.call)(image, table, fcb, 0);
+    assert_eq!(packed, 0, "function {} was refused", function);
+}
+
+fn censuses(rounds: usize, last: usize, per: usize) {
+    let image = half_full(last, per);
+    let mut best = [Duration::MAX; 2];
+    let mut lists = [Vec::new(), Vec::new()];
+    for _ in 0..rounds {
+        for (i, service) in [PROVED, PLAIN].iter().enumerate() {
+            let (time, list) = census(*service, &image, last * per);
+            best[i] = best[i].min(time);
+            lists[i] = list;
+        }
+        assert!(lists[0] == lists[1], "the two censuses differ");
+    }
+    print_row(&format!("census of {}×{}, eight files, half full", last, per), last * per, best[0], best[1]);
+}
+
+fn census(service: Service, image: &[u8], data_sectors: usize) -> (Duration, Vec<u8>) {
+    let mut sectors = vec![0; 2 * data_sectors];
+    let mut owners = vec![0; 2 * data_sectors];
+    let began = Instant::now();
+    let answer = (service.census)(image, &mut sectors, &mut owners);
+    let time = began.elapsed();
+    assert_eq!(answer, 0, "the census refused");
+    sectors.extend(owners);
+    (time, sectors)
+}
+
+/// Eight files written at the same time, so that their sectors alternate, until half of the diskette is in use.
+fn half_full(last: usize, per: usize) -> Vec<u8> {
+    let mut image = diskettes::blank(last, per);
+    let mut table = vec![0; flex::TABLE];
+    for fcb in 0..flex::BLOCKS {
+        ask(PLAIN, &mut image, &mut table, fcb, flex::OPEN_WRITE);
+    }
+    for sector in 0..last * per / 2 {
+        for i in 0..252 {
+            (PLAIN.call)(&mut image, &mut table, sector % flex::BLOCKS, i);
+        }
+    }
+    for fcb in 0..flex::BLOCKS {
+        ask(PLAIN, &mut image, &mut table, fcb, flex::CLOSE);
+    }
+    image
+}
+
+fn print_row(what: &str, sectors: usize, proved: Duration, plain: Duration) {
+    let each = |time: Duration| time.as_secs_f64() * 1e9 / sectors as f64;
+    println!(
+        "  {:42} {:8.1} ns {:8.1} ns  {:6.2}",
+        what,
+        each(proved),
+        each(plain),
+        proved.as_secs_f64() / plain.as_secs_f64()
+    );
+}
