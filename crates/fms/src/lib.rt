@@ -7,8 +7,8 @@ ghost use Rattle.rules.specs.Block.{blockAt};
 ghost use Rattle.rules.specs.Transfer.{transfer};
 ghost use Rattle.rules.specs.Call.{call, asked, perform};
 ghost use Rattle.fms.specs.Steps.{onShape};
+use blocks::refuse;
 use cells::get_in;
-use cells::put;
 use codes::is_served;
 use codes::misfit_of;
 use codes::takes;
@@ -39,8 +39,8 @@ pub struct Reply {
 fn refused(table: &mut [u8], f: u16, e: u8) -> Reply
     ensures { λ r. ⌜ out (r .answer) (r .byte) [] (now (table .exit)) ≡ left [] (now (table .entry)) f (settled (refuse e)) ⌝ }
 {
-    put(table, f as usize + 1, e);
-    Reply { answer: e, byte: 0 }
+    let answer = refuse(table, f, e);
+    Reply { answer, byte: 0 }
 }
 
 // The answer of a function that returns no byte.

@@ -10,6 +10,7 @@ ghost use Rattle.rules.specs.Block.{indexField, bufferField};
 ghost use Rattle.rules.specs.Transfer.{nextToRead, loadPuts, load, reading, takeSector, sent, fill, writing, shut, mark, closeWriting, close};
 ghost use Rattle.transfer.specs.Given.{numberOf, byteOf, Proper};
 ghost use Rattle.transfer.specs.Close.{closeEmpty, closePartial};
+use blocks::refuse;
 use cells::copy;
 use cells::get;
 use cells::get2;
@@ -27,14 +28,6 @@ use taking::take_sector;
 pub enum Given {
     Byte(u8),
     Refused(u8),
-}
-
-// A refusal: its number in byte 1 and as the answer.
-fn refuse(table: &mut [u8], f: u16, e: u8) -> u8
-    ensures { λ r. ⌜ (r ≡ e) × (now (table .exit) ≡ over (now (table .entry)) (f + 1) (one e)) ⌝ }
-{
-    put(table, f as usize + 1, e);
-    e
 }
 
 // The address of the sector that is read next.
