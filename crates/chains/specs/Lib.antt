@@ -4,6 +4,7 @@ pub mod Once
 pub mod Stored
 pub mod Addresses
 pub mod Chain
+pub mod Moves
 pub mod Directory
 pub mod Frame
 pub mod Walk

@@ -22,7 +22,8 @@ use Rattle.laws.specs.Bytes.{word-put, part-at, part-is, part-same, length-part
 use Rattle.chains.specs.Tally.{tally-append, apart}
 use Rattle.laws.specs.Addresses.{Shape}
 use Rattle.chains.specs.Addresses.{adr, absurd-bool}
-use Rattle.chains.specs.Chain.{first, lastOf, Chain, tally-last, first-in, last-append, seg-same, seg-hang, chain-same, empty, contents-same}
+use Rattle.chains.specs.Chain.{first, lastOf, Chain, tally-last, first-in, last-append, seg-same, chain-same, empty, contents-same}
+use Rattle.chains.specs.Moves.{hung-on}
 use Rattle.chains.specs.Directory.{Listing}
 use Rattle.chains.specs.Stored.{stored-off, stored-at, puts-clear}
 use Rattle.chains.specs.Frame.{Frame, framed, Lies, in-record, in-sector, in-slot, of-nothing}
@@ -127,17 +128,22 @@ module _ (M S : ℕ) (z : Shape M S) (ds : List ℕ) (d : Listing S ds) (img tab
     free-now : Chain S img′ 541 (fr ++ l)
     unfolding six one
     free-now =
-        record {
-          start = word-put img′ 541 (adr S (first (fr ++ l) 0)) (start-small fr (free-data M S z ds d img tab a r)) (at 0 541 (omega arith) (omega arith)) (at 1 542 (omega arith) (omega arith));
-          end = word-put img′ 543 (adr S (lastOf l 0)) (last-small M S z l l-data) (at 2 543 (omega arith) (omega arith)) (at 3 544 (omega arith) (omega arith)) ∙ ap (adr S) (sym (last-append fr l 0 some));
-          size = word-put img′ 545 (length fr + length l) (omega (arith, few M S z ds d img tab a r s hs)) (at 4 545 (omega arith) (omega arith)) (at 5 546 (omega arith) (omega arith)) ∙ sym (length-append fr l);
-          seg = seg-hang S img img′ fr l (λ x. omega (arith, secs-once M S z ds d img tab a r s hs x)) (λ j i t ne b. sector j i (free-data M S z ds d img tab a r j t .0) (omega arith) (λ o q. ne q)) link-is (r .free .seg)
-              (seg-same S img img′ l 0 (λ j i t b. sector j i (l-data j t .0) (omega arith)
-              (λ o q. apart l fr j (lastOf fr 0) (λ x. omega (arith, secs-once M S z ds d img tab a r s hs x)) t (tally-last fr 0 o) q)) (r .holds s hs .chain alive .seg));
-        }
-      where
-        at : (i p : ℕ) → i < 6 → 541 + i ≡ p → getD img′ p 0 ≡ getD (six (adr S (first (fr ++ l) 0)) (adr S (lastOf l 0)) (length fr + length l)) i 0
-        at i p b q = stored-at hangS img 1 i p (omega arith) (omega arith) (omega arith) (omega (arith, long1)) (omega (arith, olow))
+        hung-on S img img′ 541 fr l (r .free) (λ x. omega (arith, secs-once M S z ds d img tab a r s hs x))
+        (λ j i t ne b. sector j i (free-data M S z ds d img tab a r j t .0) (omega arith) (λ o q. ne q)) link-is
+        (seg-same S img img′ l 0 (λ j i t b. sector j i (l-data j t .0) (omega arith)
+        (λ o q. apart l fr j (lastOf fr 0) (λ x. omega (arith, secs-once M S z ds d img tab a r s hs x)) t (tally-last fr 0 o) q)) (r .holds s hs .chain alive .seg))
+        (record {
+          x = adr S (first (fr ++ l) 0);
+          y = adr S (lastOf l 0);
+          v = length fr + length l;
+          start = refl;
+          end = ap (adr S) (sym (last-append fr l 0 some));
+          size = sym (length-append fr l);
+          start-small = start-small fr (free-data M S z ds d img tab a r);
+          end-small = last-small M S z l l-data;
+          size-small = omega (arith, few M S z ds d img tab a r s hs);
+          bytes = λ i p b q. stored-at hangS img 1 i p (omega arith) (omega arith) (omega arith) (omega (arith, long1)) (omega (arith, olow));
+        })
 
     hang-step : (n : ℕ) (tab′ : List ℕ) (b : Block) → n < 8 → Turn tab tab′ n → opens b ≡ 0
         → Keeps S (slotsOf ds) tab′ n (set (a .slots) s (withMark f)) b

@@ -18,7 +18,8 @@ use Rattle.laws.specs.Bytes.{word-put, part-is, part-same, length-zeros, zeros-
 use Rattle.chains.specs.Tally.{tally, tally-append, tally-head, eq1-same, apart, eq1-ne}
 use Rattle.laws.specs.Addresses.{Shape}
 use Rattle.chains.specs.Addresses.{adr, adr-zero, absurd-bool}
-use Rattle.chains.specs.Chain.{first, lastOf, Chain, tally-last, last-snoc, seg-same, seg-hang, contents-same, contents-append}
+use Rattle.chains.specs.Chain.{first, lastOf, Chain, tally-last, last-snoc, contents-same, contents-append}
+use Rattle.chains.specs.Moves.{taken-off, hung-on}
 use Rattle.chains.specs.Directory.{Listing}
 use Rattle.chains.specs.Stored.{Off, fieldOf, valuesOf, noPut, Clear, stored-off, stored-at, puts-clear, puts-at, length-fresh, fresh-link, fresh-data, length-snoc}
 use Rattle.chains.specs.Frame.{Frame, framed, Lies, in-record, in-sector, in-slot, of-nothing}
@@ -168,18 +169,21 @@ module _ (M S : ℕ) (z : Shape M S) (ds : List ℕ) (d : Listing S ds) (img tab
   free-now : Chain S img′ 541 fr
   unfolding six
   free-now =
-      record {
-        start = word-put img′ 541 (adr S (first fr 0)) (first-small M S z fr fr-data) (at 0 541 (omega arith) (omega arith)) (at 1 542 (omega arith) (omega arith));
-        end = word-put img′ 543 (adr S (lastOf fr 0)) (last-small M S z fr fr-data) (at 2 543 (omega arith) (omega arith)) (at 3 544 (omega arith) (omega arith));
-        size = word-put img′ 545 (length fr) (omega (arith, lfew)) (at 4 545 (omega arith) (omega arith)) (at 5 546 (omega arith) (omega arith));
-        seg = seg-same S img img′ fr 0
-            (λ j i t b. sector j i (fr-data j t .0) (λ q. let v : tally j fr ≡ tally k fr = ap (λ (x : ℕ). tally x fr) q in omega (arith, tk k, eq1-same k)) (omega arith)
-            (λ o q. absurd (apart fr l j (lastOf l 0) (λ x. omega (arith, tk x)) t (tally-last l 0 o) q)))
-            (fc .seg .1);
-      }
-    where
-      at : (i p : ℕ) → i < 6 → 541 + i ≡ p → getD img′ p 0 ≡ getD (six (adr S (first fr 0)) (adr S (lastOf fr 0)) (length fr)) i 0
-      at i p b q = stored-at takeS img 0 i p (omega arith) (omega arith) q (omega (arith, long1)) (slotoff p (omega arith))
+      taken-off S img img′ 541 k fr fc
+      (λ j i t b. sector j i (fr-data j t .0) (λ q. let v : tally j fr ≡ tally k fr = ap (λ (x : ℕ). tally x fr) q in omega (arith, tk k, eq1-same k)) (omega arith)
+      (λ o q. absurd (apart fr l j (lastOf l 0) (λ x. omega (arith, tk x)) t (tally-last l 0 o) q)))
+      (record {
+        x = adr S (first fr 0);
+        y = adr S (lastOf fr 0);
+        v = length fr;
+        start = refl;
+        end = refl;
+        size = refl;
+        start-small = first-small M S z fr fr-data;
+        end-small = last-small M S z fr fr-data;
+        size-small = omega (arith, lfew);
+        bytes = λ i p b q. stored-at takeS img 0 i p (omega arith) (omega arith) q (omega (arith, long1)) (slotoff p (omega arith));
+      })
 
   abbrev grown : File
   grown = withNew f k
@@ -216,13 +220,21 @@ module _ (M S : ℕ) (z : Shape M S) (ds : List ℕ) (d : Listing S ds) (img tab
         name = part-same img img′ o o 11 (λ i b. in-slot-kept i (o + i) refl (omega arith)) ∙ h .name;
         mode = part-same img img′ (o + 11) (o + 11) 2 (λ i b. in-slot-kept (11 + i) (o + 11 + i) (omega arith) (omega arith)) ∙ h .mode;
         date = part-same img img′ (o + 19) (o + 19) 5 (λ i b. in-slot-late (19 + i) (o + 19 + i) (omega arith) (omega arith) (omega arith)) ∙ h .date;
-        chain = λ v. record {
-          start = word-put img′ (o + 13) (adr S (first l′ 0)) (first-small M S z l′ l′-data) (at 0 _ (omega arith) (omega arith)) (at 1 _ (omega arith) (omega arith));
-          end = word-put img′ (o + 13 + 2) (adr S k) (sector-small M S z k k-data) (at 2 _ (omega arith) (omega arith)) (at 3 _ (omega arith) (omega arith)) ∙ ap (adr S) (sym (last-snoc l k 0));
-          size = word-put img′ (o + 13 + 4) (length l + 1) (omega (arith, lfew)) (at 4 _ (omega arith) (omega arith)) (at 5 _ (omega arith) (omega arith)) ∙ sym (length-snoc l k);
-          seg = seg-hang S img img′ l (k ∷ []) (λ x. omega (arith, tk x)) (λ j i t ne b. sector j i (secs-data M S z ds d img tab a r s hs j t .0) (in-l j t) (omega arith) (λ o q. absurd (ne q))) link-is (c .seg)
-              (word-put img′ (256 * k) 0 (omega arith) (ap (λ (p : ℕ). getD img′ p 0) (omega arith) ∙ new 0 (omega arith) ∙ fresh-link (length l + 1) 0 (omega arith)) (new 1 (omega arith) ∙ fresh-link (length l + 1) 1 (omega arith)) ∙ sym (adr-zero S), tt);
-        };
+        chain = λ v. hung-on S img img′ (o + 13) l (k ∷ []) c (λ x. omega (arith, tk x))
+            (λ j i t ne b. sector j i (secs-data M S z ds d img tab a r s hs j t .0) (in-l j t) (omega arith) (λ o q. absurd (ne q))) link-is
+            (word-put img′ (256 * k) 0 (omega arith) (ap (λ (p : ℕ). getD img′ p 0) (omega arith) ∙ new 0 (omega arith) ∙ fresh-link (length l + 1) 0 (omega arith)) (new 1 (omega arith) ∙ fresh-link (length l + 1) 1 (omega arith)) ∙ sym (adr-zero S), tt)
+            (record {
+              x = adr S (first l′ 0);
+              y = adr S k;
+              v = length l + 1;
+              start = refl;
+              end = ap (adr S) (sym (last-snoc l k 0));
+              size = sym (length-snoc l k);
+              start-small = first-small M S z l′ l′-data;
+              end-small = sector-small M S z k k-data;
+              size-small = omega (arith, lfew);
+              bytes = at;
+            });
         dead = λ v. absurd-bool (wr .alive) v;
         body = sym (contents-append img′ l (k ∷ [])
             ∙ ap₂ (λ (x y : List (List ℕ)). x ++ y)
