@@ -1,18 +1,19 @@
-// Runs cases of document 01 through the proved entries. Standard input is a script, a command a line; each line is written out
-// again with what came of it, so that the output is the script with its answers. The first letter of a line decides, the rest
-// of its first word is for the reader. Numbers are decimal; a missing one is 0.
+// Runs cases of document 01 through the proved entries. Standard input is a script of at most 65,536 bytes, a command a line; each
+// line is written out again with what came of it, so that the output is the script with its answers. The first letter of a line
+// decides, the rest of its first word is for the reader. Numbers are decimal; a missing one is 0. Of bytes that are written out,
+// eight and more equal ones in a row are "byte*count".
 //
 //   # text             a heading
 //   fresh              the empty five-sector diskette (M = 1, S = 5, free 1,1 to 1,5), closed blocks, both lent whole
-//   lend I T           from here on I bytes of image and T of table are lent
+//   lend I T           from here on the first I bytes of the image and the first T of the table are lent
 //   name B NAME.EXT    presets the eleven bytes of the name in block B        -> the last answer
 //   as B NAME.EXT      presets the eleven bytes of the new name               -> the last answer
 //   preset B O V       presets one byte                                       -> the answer
 //   extension B C      default extension                                      -> the answer
-//   call B F V         presets the function F and calls, with the byte V      -> the function, its answer and its byte
+//   call B F V         presets the function F, then calls with the byte V     -> the function, its answer and its byte
 //   write B N V        N times function 0 with the byte V, till refused       -> how many were accepted, the last answer
-//   read B N           N times function 0, till refused                       -> the bytes, equal ones in a row once; the last answer
-//   diff               what the last of these seven commands changed: a line for each run of changed bytes
+//   read B N           N times function 0, till refused                       -> the bytes, the last answer
+//   diff               what the last of these seven commands changed (but for the function it preset), a line for each run of bytes
 //   map N K            the census into outputs of N and K entries, 7 before   -> the answer and the count, then pairs "sector owner"
 //   text L N           the error text of N into L bytes, dots before          -> the answer and the bytes
 //   image O N          N bytes of the image from O on                         -> the bytes
