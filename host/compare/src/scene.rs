@@ -17,7 +17,7 @@ const NAMES: [&Name; 10] = [
     b"ALARM-12DAT",
     b"ALARM_12DAT",
     b"Z9-_zaZAz9-",
-    b"PUMPS\0\0\0OUT",
+    b"NORTH\0\0\0OUT",
     b"x\0\0\0\0\0\0\0y\0\0",
 ];
 

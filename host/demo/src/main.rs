@@ -1,6 +1,6 @@
 //! Makes the demo diskette, host/demo.dsk, and writes it to standard output: `make_demo > host/demo.dsk`.
 //!
-//! Four tracks of eight data sectors and three alarm logs, on a diskette that has been in use. PUMPS.TXT and BOILER.TXT
+//! Four tracks of eight data sectors and three alarm logs of a site, on a diskette that has been in use. NORTH.TXT and SOUTH.TXT
 //! were written at the same time by two control blocks, so their sectors alternate. An older log before them was deleted,
 //! so its slot can be used again and its sectors are at the end of the free chain. The same bytes come out every time;
 //! host/test compares them with the file.
@@ -55,19 +55,19 @@ fn make() -> Result<Vec<u8>, Refusal> {
         making.line(0, 7 * i, "TEST OF ALL BELLS AND LAMPS")?;
     }
     making.ask(0, flex::CLOSE)?;
-    making.open(0, "PUMPS")?;
-    making.open(1, "BOILER")?;
+    making.open(0, "NORTH")?;
+    making.open(1, "SOUTH")?;
     for i in 0..40 {
-        let pump = format!("PUMP {} PRESSURE {}", i % 3 + 1, ["LOW", "NORMAL"][i % 2]);
-        making.line(0, 360 + 11 * i, &pump)?;
-        let boiler = format!("BOILER {} TEMPERATURE {} DEGREES", i % 2 + 1, 70 + 7 * i % 31);
-        making.line(1, 363 + 11 * i, &boiler)?;
+        let north = format!("AMPLIFIER {} LEVEL {}", i / 2 % 9 + 1, ["LOW", "NORMAL"][i % 2]);
+        making.line(0, 360 + 11 * i, &north)?;
+        let south = format!("AMPLIFIER {} SUPPLY {} VOLTS", i % 24 + 1, 51 + 7 * i % 11);
+        making.line(1, 363 + 11 * i, &south)?;
     }
     making.ask(0, flex::CLOSE)?;
     making.ask(1, flex::CLOSE)?;
-    making.open(0, "DOORS")?;
+    making.open(0, "POWER")?;
     for i in 0..24 {
-        making.line(0, 420 + 13 * i, &format!("DOOR {} {}", i % 4 + 1, ["OPEN", "CLOSED"][i / 4 % 2]))?;
+        making.line(0, 420 + 13 * i, &format!("FEEDER {} {}", i % 4 + 1, ["OFF", "ON"][i / 4 % 2]))?;
     }
     making.ask(0, flex::CLOSE)?;
     making.name(0, "OLD")?;

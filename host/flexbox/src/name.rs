@@ -44,18 +44,18 @@ mod tests {
 
     #[test]
     fn typed_names_are_filled_up_with_zeros() {
-        assert_eq!(Name::typed("PUMP.TXT").unwrap().bytes(), b"PUMP\0\0\0\0TXT");
+        assert_eq!(Name::typed("AMPL.TXT").unwrap().bytes(), b"AMPL\0\0\0\0TXT");
         assert_eq!(Name::typed("A-LONG_1.X").unwrap().bytes(), b"A-LONG_1X\0\0");
-        assert_eq!(Name::typed("PUMP").unwrap().bytes(), b"PUMP\0\0\0\0\0\0\0");
-        assert!(!Name::typed("PUMP").unwrap().has_extension());
+        assert_eq!(Name::typed("AMPL").unwrap().bytes(), b"AMPL\0\0\0\0\0\0\0");
+        assert!(!Name::typed("AMPL").unwrap().has_extension());
         assert!(Name::typed("NINECHARS.TXT").is_err());
-        assert!(Name::typed("PUMP.TEXT").is_err());
+        assert!(Name::typed("AMPL.TEXT").is_err());
         assert!(Name::typed("A.B.C").unwrap().has_extension());
     }
 
     #[test]
     fn slots_are_shown_whatever_they_hold() {
-        assert_eq!(shown(b"PUMP\0\0\0\0TXT"), "PUMP.TXT");
+        assert_eq!(shown(b"AMPL\0\0\0\0TXT"), "AMPL.TXT");
         assert_eq!(shown(b"A\x07 C\xff\0\0\0T\0\0"), "A??C?.T");
     }
 }

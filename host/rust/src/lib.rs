@@ -8,7 +8,7 @@
 //! # fn main() -> Result<(), flex::Refusal> {
 //! let mut image = std::fs::read("alarms.dsk").unwrap();
 //! let mut table = [0; flex::TABLE];
-//! for (i, letter) in b"PUMP".iter().enumerate() {
+//! for (i, letter) in b"AMPL".iter().enumerate() {
 //!     flex::preset(&mut table, 0, flex::NAME + i, *letter)?;
 //! }
 //! flex::extension(&mut table, 0, 1)?; // TXT
