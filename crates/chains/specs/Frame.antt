@@ -8,8 +8,8 @@ use lib.ListN.{length, getD}
 use Rattle.rules.specs.Stores.{Store, store, stored}
 use Rattle.rules.specs.Directory.{slotsOf}
 use Rattle.chains.specs.Tally.{tally}
-use Rattle.laws.specs.Stores.{length-stored}
-use Rattle.chains.specs.Stored.{placeAt, bytesOf, Off, stored-off}
+use Rattle.laws.specs.Each.{Each}
+use Rattle.laws.specs.Stores.{Piece, piece, Off, inImage, length-stored, stored-off}
 use Rattle.chains.specs.Directory.{Listing, Spot, spot, slots-apart}
 
 -- a store into the record, into one of the sectors ks, or into the slot at o; or of nothing
@@ -19,10 +19,6 @@ pub data Lies (S : ℕ) (ks : List ℕ) (o : ℕ) : Store → Type 0 where
   in-slot : (k i : ℕ) (vs : List ℕ) → o ≤ 256 * k + i → 256 * k + i + length vs ≤ o + 24 → Lies S ks o (store k i vs)
   of-nothing : (k i : ℕ) → Lies S ks o (store k i [])
 
-abbrev pub AllLie : ℕ → List ℕ → ℕ → List Store → Type 0
-AllLie S ks o [] = Unit {0}
-AllLie S ks o (w ∷ ws) = Lies S ks o w × AllLie S ks o ws
-
 -- of slot s of the directory ds
 pub record Frame (S : ℕ) (ds m m′ ks : List ℕ) (s : ℕ) : Type 0 where
   pub len : length m′ ≡ length m
@@ -30,6 +26,9 @@ pub record Frame (S : ℕ) (ds m m′ ks : List ℕ) (s : ℕ) : Type 0 where
   pub links : (k i : ℕ) → 4 ≤ k → k < S → i < 2 → getD m′ (256 * k + i) 0 ≡ getD m (256 * k + i) 0
   pub slots : (s′ i : ℕ) → s′ < length (slotsOf ds) → s′ ≢ s → i < 24 → getD m′ (getD (slotsOf ds) s′ 0 + i) 0 ≡ getD m (getD (slotsOf ds) s′ 0 + i) 0
   pub sectors : (j i : ℕ) → S ≤ j → tally j ks ≡ 0 → i < 256 → getD m′ (256 * j + i) 0 ≡ getD m (256 * j + i) 0
+
+abbrev pieceOf : Store → Piece
+pieceOf (store k i vs) = piece (256 * k + i) vs
 
 -- no slot reaches into a link
 below : (k j r i : ℕ) → 16 ≤ r → r ≤ 232 → i < 2 → 256 * k + r ≤ 256 * j + i → 256 * j + i < 256 * k + r + 24 → ⊥
@@ -42,14 +41,13 @@ module _ (S : ℕ) (s5 : 5 ≤ S) (ds : List ℕ) (d : Listing S ds) (s : ℕ) (
   w : Spot S ds s o
   w = spot S ds d s hs
 
-  off-shape : (ks : List ℕ) (t : Store) (p : ℕ) → 550 ≤ p → p < 552 → Lies S ks o t → placeAt t ≤ p → p < placeAt t + length (bytesOf t) → ⊥
+  off-shape : (ks : List ℕ) (t : Store) (p : ℕ) → 550 ≤ p → p < 552 → Lies S ks o t → Off p (pieceOf t)
   off-shape ks t p a b (in-record vs l) = λ x y. omega arith
   off-shape ks t p a b (in-sector k i vs l n e) = λ x y. omega arith
   off-shape ks t p a b (in-slot k i vs l e) = λ u v. omega (arith, w .place, w .low)
   off-shape ks t p a b (of-nothing k u) = λ x y. omega arith
 
-  off-link : (ks : List ℕ) (t : Store) (j i : ℕ) → 4 ≤ j → j < S → i < 2 → Lies S ks o t → placeAt t ≤ 256 * j + i
-      → 256 * j + i < placeAt t + length (bytesOf t) → ⊥
+  off-link : (ks : List ℕ) (t : Store) (j i : ℕ) → 4 ≤ j → j < S → i < 2 → Lies S ks o t → Off (256 * j + i) (pieceOf t)
   off-link ks t j i a b c (in-record vs l) = λ x y. omega arith
   off-link ks t j i a b c (in-sector k h vs l n e) = λ x y. omega arith
   off-link ks t j i a b c (in-slot k h vs l e) =
@@ -57,26 +55,25 @@ module _ (S : ℕ) (s5 : 5 ≤ S) (ds : List ℕ) (d : Listing S ds) (s : ℕ) (
   off-link ks t j i a b c (of-nothing k u) = λ x y. omega arith
 
   off-slot : (ks : List ℕ) (t : Store) (s′ i : ℕ) → s′ < length (slotsOf ds) → s′ ≢ s → i < 24 → Lies S ks o t
-      → placeAt t ≤ getD (slotsOf ds) s′ 0 + i → getD (slotsOf ds) s′ 0 + i < placeAt t + length (bytesOf t) → ⊥
+      → Off (getD (slotsOf ds) s′ 0 + i) (pieceOf t)
   off-slot ks t s′ i h ne b (in-record vs l) = let w′ = spot S ds d s′ h in λ u v. omega (arith, w′ .place, w′ .low)
   off-slot ks t s′ i h ne b (in-sector k j vs l n e) = let w′ = spot S ds d s′ h in λ u v. omega (arith, w′ .place, w′ .high, w′ .row)
   off-slot ks t s′ i h ne b (in-slot k j vs l e) = λ u v. slots-apart S ds d s s′ hs h (λ q. ne (sym q)) i b (omega arith) (omega arith)
   off-slot ks t s′ i h ne b (of-nothing k u) = λ x y. omega arith
 
-  off-sector : (ks : List ℕ) (t : Store) (j i : ℕ) → S ≤ j → tally j ks ≡ 0 → i < 256 → Lies S ks o t → placeAt t ≤ 256 * j + i
-      → 256 * j + i < placeAt t + length (bytesOf t) → ⊥
+  off-sector : (ks : List ℕ) (t : Store) (j i : ℕ) → S ≤ j → tally j ks ≡ 0 → i < 256 → Lies S ks o t → Off (256 * j + i) (pieceOf t)
   off-sector ks t j i a b c (in-record vs l) = λ x y. omega arith
   off-sector ks t j i a b c (in-sector k h vs l n e) = λ u v. let q : k ≡ j = omega arith in let y : tally k ks ≡ tally j ks = ap (λ (x : ℕ). tally x ks) q in omega (arith, y)
   off-sector ks t j i a b c (in-slot k h vs l e) = λ u v. omega (arith, w .place, w .row, w .high)
   off-sector ks t j i a b c (of-nothing k u) = λ x y. omega arith
 
-  all-off : (ks : List ℕ) (p : ℕ) → ((t : Store) → Lies S ks o t → placeAt t ≤ p → p < placeAt t + length (bytesOf t) → ⊥) → (ws : List Store)
-      → AllLie S ks o ws → Off p ws
+  all-off : (ks : List ℕ) (p : ℕ) → ((t : Store) → Lies S ks o t → Off p (pieceOf t)) → (ws : List Store)
+      → Each (Lies S ks o) ws → Each (Off p) (inImage ws)
   all-off ks p g [] a = tt
-  all-off ks p g (t ∷ ws) a = (g t (a .0), all-off ks p g ws (a .1))
+  all-off ks p g (store k i vs ∷ ws) a = (g (store k i vs) (a .0), all-off ks p g ws (a .1))
 
   -- THE FRAME of such stores
-  pub framed : (m ks : List ℕ) (ws : List Store) → AllLie S ks o ws → Frame S ds m (stored m ws) ks s
+  pub framed : (m ks : List ℕ) (ws : List Store) → Each (Lies S ks o) ws → Frame S ds m (stored m ws) ks s
   framed m ks ws a =
       record {
         len = length-stored ws m;

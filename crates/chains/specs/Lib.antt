@@ -1,7 +1,7 @@
 -- Chains by links, and "each data sector once".
 pub mod Tally
 pub mod Once
-pub mod Stored
+pub mod Snoc
 pub mod Addresses
 pub mod Chain
 pub mod Moves

@@ -21,7 +21,7 @@ use Rattle.laws.specs.Tests.{within-is}
 use Rattle.laws.specs.Addresses.{Shape}
 use Rattle.chains.specs.Addresses.{shape-right, absurd-bool}
 use Rattle.chains.specs.Directory.{Listing}
-use Rattle.chains.specs.Stored.{puts-clear}
+use Rattle.laws.specs.Stores.{puts-off}
 use Rattle.demands.specs.Ledger.{noFile, Block, closed, listing, reading, writing, Ledger, Request, Fate, activity, block, transferred, shutBlock, rewound, shownNext, performed, fate}
 use Rattle.demands.specs.Diskette.{request}
 use Rattle.demands.specs.Relation.{tb, opens, Reading, Writing, Keeps, Agrees, tp-same}
@@ -178,15 +178,15 @@ module _ (M S : ℕ) (z : Shape M S) (ds : List ℕ) (d : Listing S ds) (img tab
       pick-cases Still (eqb i 0) _ _
       (λ h0. let e : i ≡ 0 = eqb-true i 0 h0 in
       quiet M S z ds d img tab a r n hn (puts tab (320 * n) (put i (v ∷ []) ∷ [])) (turned tab n (put i (v ∷ []) ∷ []) (omega arith))
-      (λ j k. puts-clear (put i (v ∷ []) ∷ []) tab (320 * n) j (omega (arith, k))))
+      (λ j k. puts-off (put i (v ∷ []) ∷ []) tab (320 * n) (320 * n + j) (omega (arith, k))))
       (λ h0. pick-cases Still (presettable i) _ _
       (λ hp. pick-cases Still (idle (activityIn tab (320 * n))) _ _
       (λ hi.
       let p = offset-is i hp in
       let k = idle-act (tb tab n 2) hi in
       idle-quiet M S z ds d img tab a r n hn (puts tab (320 * n) (put i (v ∷ []) ∷ [])) (turned tab n (put i (v ∷ []) ∷ []) (omega (arith, p .high)))
-      (idle-opens M S z ds d img tab a r n hn (k .0) (k .1)) (puts-clear (put i (v ∷ []) ∷ []) tab (320 * n) 2 (omega (arith, p .low)))
-      (tp-same tab (puts tab (320 * n) (put i (v ∷ []) ∷ [])) n (λ j h. puts-clear (put i (v ∷ []) ∷ []) tab (320 * n) j ((λ x y. p .not-place (omega (arith, h)) (omega (arith, h))), tt))))
+      (idle-opens M S z ds d img tab a r n hn (k .0) (k .1)) (puts-off (put i (v ∷ []) ∷ []) tab (320 * n) (320 * n + 2) (omega (arith, p .low)))
+      (tp-same tab (puts tab (320 * n) (put i (v ∷ []) ∷ [])) n (λ j h. puts-off (put i (v ∷ []) ∷ []) tab (320 * n) (320 * n + j) ((λ x y. p .not-place (omega (arith, h)) (omega (arith, h))), tt))))
       (λ hi. r))
       (λ hp. r)))
       (λ h8. r))
@@ -222,8 +222,8 @@ module _ (M S : ℕ) (z : Shape M S) (ds : List ℕ) (d : Listing S ds) (img tab
       let ps = put 12 (getD extensions c []) ∷ [] in
       let k = idle-act (tb tab n 2) hi in
       idle-quiet M S z ds d img tab a r n hn (puts tab (320 * n) ps) (turned tab n ps (omega (arith, l)))
-      (idle-opens M S z ds d img tab a r n hn (k .0) (k .1)) (puts-clear ps tab (320 * n) 2 (omega (arith, l)))
-      (tp-same tab (puts tab (320 * n) ps) n (λ j h. puts-clear ps tab (320 * n) j (omega (arith, l, h)))))
+      (idle-opens M S z ds d img tab a r n hn (k .0) (k .1)) (puts-off ps tab (320 * n) (320 * n + 2) (omega (arith, l)))
+      (tp-same tab (puts tab (320 * n) ps) n (λ j h. puts-off ps tab (320 * n) (320 * n + j) (omega (arith, l, h)))))
       (λ hc. r))
       (λ h0. r))
       (λ hi. r))

@@ -21,7 +21,8 @@ use Rattle.laws.specs.Addresses.{Shape}
 use Rattle.chains.specs.Addresses.{adr}
 use Rattle.chains.specs.Chain.{first, lastOf, Chain, setLast, contents-last, tally-last, chain-same, in-one, empty}
 use Rattle.chains.specs.Directory.{Listing, spot, placed-spot}
-use Rattle.chains.specs.Stored.{stored-off, stored-at, puts-clear, puts-at, snoc-other, snoc-last, length-snoc}
+use Rattle.chains.specs.Snoc.{snoc-other, snoc-last, length-snoc}
+use Rattle.laws.specs.Stores.{stored-off, stored-at, puts-off, puts-at}
 use Rattle.chains.specs.Frame.{Frame, framed, in-sector}
 use Rattle.demands.specs.Ledger.{File, noFile, Block, closed, listing, reading, writing, Ledger, Request, onBlock, onFile, withLast, padTo, shutBlock}
 use Rattle.demands.specs.Relation.{tb, t2, opens, writes, Holds, Reading, Writing, Listed, Keeps, Agrees, t2-same, tp-same, Turn, step}
@@ -132,7 +133,7 @@ module _ (M S : ℕ) (z : Shape M S) (ds : List ℕ) (d : Listing S ds) (img tab
 
         same : (i : ℕ) → i ≢ 34 → i ≢ 68 + length ub → tb tab′ n i ≡ tb tab n i
         unfolding one
-        same i u v = puts-clear ps tab (320 * n) i (omega arith)
+        same i u v = puts-off ps tab (320 * n) (320 * n + i) (omega arith)
 
         s2 : (i : ℕ) → i < 33 → t2 tab′ n i ≡ t2 tab n i
         s2 i b = t2-same tab tab′ n i (same i (omega arith) (omega arith)) (same (i + 1) (omega arith) (omega arith))
@@ -142,7 +143,7 @@ module _ (M S : ℕ) (z : Shape M S) (ds : List ℕ) (d : Listing S ds) (img tab
           buf : (k : ℕ) → k < 252 → Dec (k ≡ length ub) → tb tab′ n (68 + k) ≡ getD (ub ++ b ∷ []) k 0
           unfolding one
           buf k l (yes q) =
-              puts-at ps tab (320 * n) 0 0 (68 + k) (omega arith) (omega arith) (omega arith) (in-table (68 + k) (omega arith)) (omega arith)
+              puts-at ps tab (320 * n) 0 0 (320 * n + (68 + k)) (omega arith) (omega arith) (omega arith) (in-table (68 + k) (omega arith)) (omega arith)
               ∙ sym (ap (λ (j : ℕ). getD (ub ++ b ∷ []) j 0) q ∙ snoc-last ub b)
           buf k l (no q) = same (68 + k) (omega arith) (omega arith) ∙ w .buffer h k l ∙ sym (snoc-other ub b k q)
 
@@ -158,7 +159,7 @@ module _ (M S : ℕ) (z : Shape M S) (ds : List ℕ) (d : Listing S ds) (img tab
             size = s2 21 (omega arith) ∙ w .size;
             pos = s2 30 (omega arith) ∙ w .pos;
             idle = λ q. absurd (omega (arith, length-snoc ub b));
-            busy = λ q. puts-at ps tab (320 * n) 1 0 34 (omega arith) (omega arith) (omega arith) (in-table 34 (omega arith)) tt ∙ omega (arith, length-snoc ub b);
+            busy = λ q. puts-at ps tab (320 * n) 1 0 (320 * n + 34) (omega arith) (omega arith) (omega arith) (in-table 34 (omega arith)) tt ∙ omega (arith, length-snoc ub b);
             short = omega (arith, length-snoc ub b);
             some = λ q. w .some h;
             buffer = λ q k l. buf k l (ℕ-discrete k (length ub));
@@ -175,7 +176,7 @@ module _ (M S : ℕ) (z : Shape M S) (ds : List ℕ) (d : Listing S ds) (img tab
 
       fsame : (b i : ℕ) → i < 319 → i ≢ 34 → tb (puts tab (320 * n) (fs b)) n i ≡ tb tab n i
       unfolding one
-      fsame b i u v = puts-clear (fs b) tab (320 * n) i (omega arith)
+      fsame b i u v = puts-off (fs b) tab (320 * n) (320 * n + i) (omega arith)
 
       full-now : (b : ℕ) (f′ : File) → f′ .secs ≡ g .secs → f′ .name ≡ g .name → 1 ≤ length (g .secs)
           → Writing S (slotsOf ds) (puts tab (320 * n) (fs b)) n f′ s []
@@ -189,7 +190,7 @@ module _ (M S : ℕ) (z : Shape M S) (ds : List ℕ) (d : Listing S ds) (img tab
         start = t2-same tab (puts tab (320 * n) (fs b)) n 17 (fsame b 17 (omega arith) (omega arith)) (fsame b 18 (omega arith) (omega arith)) ∙ w .start ∙ ap (λ (x : List ℕ). adr S (first x 0)) (sym es);
         size = t2-same tab (puts tab (320 * n) (fs b)) n 21 (fsame b 21 (omega arith) (omega arith)) (fsame b 22 (omega arith) (omega arith)) ∙ w .size ∙ ap length (sym es);
         pos = t2-same tab (puts tab (320 * n) (fs b)) n 30 (fsame b 30 (omega arith) (omega arith)) (fsame b 31 (omega arith) (omega arith)) ∙ w .pos ∙ ap (λ (x : List ℕ). adr S (lastOf x 0)) (sym es);
-        idle = λ h. puts-at (fs b) tab (320 * n) 1 0 34 (omega arith) (omega arith) (omega arith) (in-table 34 (omega arith)) tt;
+        idle = λ h. puts-at (fs b) tab (320 * n) 1 0 (320 * n + 34) (omega arith) (omega arith) (omega arith) (in-table 34 (omega arith)) tt;
         busy = λ h. absurd (omega arith);
         short = omega arith;
         some = λ h. absurd (omega arith);
@@ -218,7 +219,7 @@ module _ (M S : ℕ) (z : Shape M S) (ds : List ℕ) (d : Listing S ds) (img tab
 
     shut-now : tb (puts tab (320 * n) shutPs) n 2 ≡ 0
     unfolding one
-    shut-now = puts-at shutPs tab (320 * n) 0 0 2 (omega arith) (omega arith) (omega arith) (in-table 2 (omega arith)) tt
+    shut-now = puts-at shutPs tab (320 * n) 0 0 (320 * n + 2) (omega arith) (omega arith) (omega arith) (in-table 2 (omega arith)) tt
 
     shut-step : Agrees M S ds img (puts tab (320 * n) shutPs) (onBlock a n closed)
     shut-step = shut-block M S z ds d img tab a r n hn (puts tab (320 * n) shutPs) closed shut-turn refl refl shut-now

@@ -20,7 +20,7 @@ use Rattle.laws.specs.Bytes.{part-is, length-part, length-zeros, same-refl, sam
 use Rattle.laws.specs.Addresses.{Shape}
 use Rattle.chains.specs.Chain.{first-getD}
 use Rattle.chains.specs.Directory.{Listing, directory-is, slot-at, length-slots, spot, spot-sector, placed-spot, behind}
-use Rattle.chains.specs.Stored.{puts-clear, puts-at}
+use Rattle.laws.specs.Stores.{puts-off, puts-at}
 use Rattle.demands.specs.Ledger.{Block, closed, listing, Ledger, Request, denied, granted, onBlock, shownNext}
 use Rattle.demands.specs.Diskette.{request}
 use Rattle.demands.specs.Relation.{tb, opens, Listed, Keeps, Agrees, tp-same}
@@ -41,10 +41,10 @@ module _ (M S : ℕ) (z : Shape M S) (ds : List ℕ) (d : Listing S ds) (img tab
     refl,
     shut-block M S z ds d img tab a r n hn (puts tab (320 * n) ps) (listing 0) (turned tab n ps (omega (arith, length-zeros 3))) refl refl
         (record {
-          act = puts-at ps tab (320 * n) 0 0 2 (omega arith) (omega arith) (omega arith) (in-table 2 (omega arith)) (omega arith);
+          act = puts-at ps tab (320 * n) 0 0 (320 * n + 2) (omega arith) (omega arith) (omega arith) (in-table 2 (omega arith)) (omega arith);
           shown = omega arith;
           place = part-is (puts tab (320 * n) ps) (320 * n + 47) 3 (zeros 3) (length-zeros 3)
-              (λ i b. ap (λ (p : ℕ). getD (puts tab (320 * n) ps) p 0) (omega arith) ∙ puts-at ps tab (320 * n) 1 i (47 + i) (omega arith) (omega (arith, length-zeros 3)) refl (in-table (47 + i) (omega arith)) tt);
+              (λ i b. ap (λ (p : ℕ). getD (puts tab (320 * n) ps) p 0) (omega arith) ∙ puts-at ps tab (320 * n) 1 i (320 * n + (47 + i)) (omega arith) (omega (arith, length-zeros 3)) (omega arith) (in-table (47 + i) (omega arith)) tt);
         }),
   )
 
@@ -62,10 +62,10 @@ module _ (M S : ℕ) (z : Shape M S) (ds : List ℕ) (d : Listing S ds) (img tab
       refl,
       shut-block M S z ds d img tab a r n hn (puts tab (320 * n) qs) (listing (suc p)) (turned tab n qs (omega (arith, length-part img o 24))) refl refl
           (record {
-            act = puts-clear qs tab (320 * n) 2 (omega (arith, length-part img o 24)) ∙ act;
+            act = puts-off qs tab (320 * n) (320 * n + 2) (omega (arith, length-part img o 24)) ∙ act;
             shown = omega arith;
             place = part-is (puts tab (320 * n) qs) (320 * n + 47) 3 (placeOf o) refl
-                (λ i b. ap (λ (x : ℕ). getD (puts tab (320 * n) qs) x 0) (omega arith) ∙ puts-at qs tab (320 * n) 0 i (47 + i) (omega arith) b refl (in-table (47 + i) (omega arith)) (omega (arith, length-part img o 24)));
+                (λ i b. ap (λ (x : ℕ). getD (puts tab (320 * n) qs) x 0) (omega arith) ∙ puts-at qs tab (320 * n) 0 i (320 * n + (47 + i)) (omega arith) b (omega arith) (in-table (47 + i) (omega arith)) (omega (arith, length-part img o 24)));
           }),
     )
 
@@ -126,6 +126,6 @@ module _ (M S : ℕ) (z : Shape M S) (ds : List ℕ) (d : Listing S ds) (img tab
       meets-unless M S ds img tab n _ (isSector M S (wordAt tab (320 * n + 30))) 9 _ _ refl (omega arith)
       (λ h. (
         refl,
-        idle-quiet M S z ds d img tab a r n hn (puts tab (320 * n) ts) (turned tab n ts (omega (arith, lv))) oz (puts-clear ts tab (320 * n) 2 (omega (arith, lv)))
-            (tp-same tab (puts tab (320 * n) ts) n (λ i h. puts-clear ts tab (320 * n) i (omega (arith, lv, h)))),
+        idle-quiet M S z ds d img tab a r n hn (puts tab (320 * n) ts) (turned tab n ts (omega (arith, lv))) oz (puts-off ts tab (320 * n) (320 * n + 2) (omega (arith, lv)))
+            (tp-same tab (puts tab (320 * n) ts) n (λ i h. puts-off ts tab (320 * n) (320 * n + i) (omega (arith, lv, h)))),
       ))

@@ -15,7 +15,7 @@ use Rattle.laws.specs.Addresses.{Shape}
 use Rattle.chains.specs.Addresses.{absurd-bool}
 use Rattle.chains.specs.Chain.{Chain, chain-same}
 use Rattle.chains.specs.Directory.{Listing, Spot, spot}
-use Rattle.chains.specs.Stored.{stored-off, stored-at}
+use Rattle.laws.specs.Stores.{stored-off, stored-at}
 use Rattle.chains.specs.Frame.{Frame, framed, in-slot}
 use Rattle.demands.specs.Ledger.{File, noFile, Block, closed, Ledger, withMark}
 use Rattle.demands.specs.Relation.{opens, writes, Holds, Keeps, Agrees, Turn, step}

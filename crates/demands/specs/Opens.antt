@@ -23,7 +23,8 @@ use Rattle.laws.specs.Addresses.{Shape}
 use Rattle.chains.specs.Addresses.{adr, adr-zero, absurd-bool}
 use Rattle.chains.specs.Chain.{first-getD}
 use Rattle.chains.specs.Directory.{Listing}
-use Rattle.chains.specs.Stored.{fieldOf, valuesOf, noPut, Clear, puts-clear, puts-at}
+use Rattle.laws.specs.Each.{Each}
+use Rattle.laws.specs.Stores.{Piece, begins, bytesOf, none, inBlock, Off, puts-off, puts-at}
 use Rattle.demands.specs.Ledger.{File, noFile, closed, reading, writing, Ledger, denied, granted, Sought, nowhere, slot, onSought, fileNamed, vacantSlot, busy, onBlock, onFile, newFile, openedToRead, openedToWrite}
 use Rattle.demands.specs.Diskette.{request}
 use Rattle.demands.specs.Relation.{tb, t2, tp, opens, Holds, Reading, Writing, Agrees, Turn, step, step-block}
@@ -57,9 +58,12 @@ module _ (M S : ℕ) (z : Shape M S) (ds : List ℕ) (d : Listing S ds) (img tab
   unfolding one placeOf
   open-turn = turned tab n ps (omega (arith, le, length-zeros 6))
 
-  at : (q j i : ℕ) → q < 6 → j < length (valuesOf (getD ps q noPut)) → fieldOf (getD ps q noPut) + j ≡ i → i < 320 → Clear i (drop (suc q) ps)
-      → tb tab′ n i ≡ getD (valuesOf (getD ps q noPut)) j 0
-  at q j i g u v t c = puts-at ps tab (320 * n) q j i (omega arith) u v (omega (arith, r .tlen)) c
+  abbrev pieces : List Piece
+  pieces = inBlock (320 * n) ps
+
+  at : (q j i : ℕ) → q < 6 → j < length (bytesOf (getD pieces q none)) → begins (getD pieces q none) + j ≡ 320 * n + i → i < 320
+      → Each (Off (320 * n + i)) (drop (suc q) pieces) → tb tab′ n i ≡ getD (bytesOf (getD pieces q none)) j 0
+  at q j i g u v t c = puts-at ps tab (320 * n) q j (320 * n + i) (omega arith) u v (omega (arith, r .tlen)) c
 
   open-entry : (i : ℕ) → 4 ≤ i → i < 28 → tb tab′ n i ≡ getD es (i - 4) 0
   unfolding one placeOf
@@ -80,7 +84,7 @@ module _ (M S : ℕ) (z : Shape M S) (ds : List ℕ) (d : Listing S ds) (img tab
 
   open-drive : tb tab′ n 3 ≡ tb tab n 3
   unfolding one placeOf
-  open-drive = puts-clear ps tab (320 * n) 3 (omega (arith, length-zeros 6))
+  open-drive = puts-off ps tab (320 * n) (320 * n + 3) (omega (arith, length-zeros 6))
 
   open-pos : t2 tab′ n 30 ≡ 0
   open-pos =
@@ -89,7 +93,7 @@ module _ (M S : ℕ) (z : Shape M S) (ds : List ℕ) (d : Listing S ds) (img tab
   open-place : tp tab′ n ≡ placeOf o
   unfolding one placeOf
   open-place =
-      part-is tab′ (320 * n + 47) 3 (placeOf o) refl (λ i b. ap (λ (p : ℕ). getD tab′ p 0) (omega arith) ∙ at 4 i (47 + i) (omega arith) b refl (omega arith) (omega arith))
+      part-is tab′ (320 * n + 47) 3 (placeOf o) refl (λ i b. ap (λ (p : ℕ). getD tab′ p 0) (omega arith) ∙ at 4 i (47 + i) (omega arith) b (omega arith) (omega arith) (omega arith))
 
 -- a word of a part
 word-part : (m : List ℕ) (p n i : ℕ) → i + 1 < n → wordAt (part m p n) i ≡ wordAt m (p + i)

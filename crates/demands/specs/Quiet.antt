@@ -2,7 +2,7 @@
 use mathlib.Core.Path.{_≡_, refl, sym, ap, _∙_, subst}
 use mathlib.Core.Logic.{_≢_}
 use mathlib.Core.List.{List, [], _∷_}
-use Prim.Native.Nat.{ℕ, suc, _*_, _≤_, _<_}
+use Prim.Native.Nat.{ℕ, suc, _+_, _*_, _≤_, _<_}
 use native.Mathlib.Omega.{arith}
 use lib.ListN.{getD, set}
 use lib.Seq.{set-getD}
@@ -12,14 +12,14 @@ use Rattle.rules.specs.Directory.{slotsOf}
 use Rattle.laws.specs.Bytes.{length-one}
 use Rattle.laws.specs.Addresses.{Shape}
 use Rattle.chains.specs.Directory.{Listing}
-use Rattle.laws.specs.Stores.{length-puts}
-use Rattle.chains.specs.Stored.{Inside, puts-clear, puts-other}
+use Rattle.laws.specs.Stores.{length-puts, Within, puts-off, puts-other}
+use Rattle.laws.specs.Each.{Each}
 use Rattle.demands.specs.Ledger.{File, Block, closed, listing, reading, writing, Ledger, activity}
 use Rattle.demands.specs.Relation.{tb, tp, opens, writes, Keeps, Agrees, Rest, keeps-same, Turn, step-block}
 
 -- stores inside of block n leave the others
-pub turned : (tab : List ℕ) (n : ℕ) (ps : List Put) → Inside ps → Turn tab (puts tab (320 * n) ps) n
-turned tab n ps w = record { len = length-puts ps tab (320 * n); others = λ n′ e i h. puts-other ps tab n n′ i w e (h .1) }
+pub turned : (tab : List ℕ) (n : ℕ) (ps : List Put) → Each Within ps → Turn tab (puts tab (320 * n) ps) n
+turned tab n ps w = record { len = length-puts ps tab (320 * n); others = λ n′ e i h. puts-other ps tab n n′ i e (h .1) w }
 
 -- the activity byte says what the block does
 pub activity-is : (S : ℕ) (os tab : List ℕ) (n : ℕ) (fs : List File) (b : Block) → Keeps S os tab n fs b → tb tab n 2 ≡ activity b
@@ -80,7 +80,7 @@ module _ (M S : ℕ) (z : Shape M S) (ds : List ℕ) (d : Listing S ds) (img tab
   pub answered : (e : ℕ) → Agrees M S ds img (puts tab (320 * n) (put 1 (one e) ∷ [])) a
   answered e =
       quiet (puts tab (320 * n) (put 1 (one e) ∷ [])) (turned tab n (put 1 (one e) ∷ []) (omega (arith, length-one e)))
-      (λ i h. puts-clear (put 1 (one e) ∷ []) tab (320 * n) i (omega (arith, length-one e)))
+      (λ i h. puts-off (put 1 (one e) ∷ []) tab (320 * n) (320 * n + i) (omega (arith, length-one e)))
 
   idle-keeps : (tab′ : List ℕ) (fs : List File) (b : Block) → opens b ≡ 0 → tb tab′ n 2 ≡ tb tab n 2 → tp tab′ n ≡ tp tab n
       → Keeps S (slotsOf ds) tab n (a .slots) b → Keeps S (slotsOf ds) tab′ n fs b

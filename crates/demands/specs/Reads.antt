@@ -22,7 +22,7 @@ use Rattle.laws.specs.Addresses.{Shape}
 use Rattle.chains.specs.Addresses.{adr, adr-zero, adr-pos, adr-small, index-adr, data-adr}
 use Rattle.chains.specs.Chain.{tally-getD, seg-at, contents-at}
 use Rattle.chains.specs.Directory.{Listing}
-use Rattle.chains.specs.Stored.{puts-clear, puts-at}
+use Rattle.laws.specs.Stores.{puts-off, puts-at}
 use Rattle.demands.specs.Ledger.{File, noFile, Block, closed, reading, Ledger, Request, denied, granted, onBlock, transferred, rewound}
 use Rattle.demands.specs.Relation.{tb, t2, opens, writes, Holds, Reading, Keeps, Agrees, t2-same, tp-same, all-low, all-high, slot-le}
 use Rattle.demands.specs.Quiet.{turned, on-block}
@@ -55,7 +55,7 @@ module _ (M S : ℕ) (z : Shape M S) (ds : List ℕ) (d : Listing S ds) (img tab
     wi = w .within h
 
     same : (k : ℕ) → k ≢ 34 → tb (puts tab (320 * n) gave) n k ≡ tb tab n k
-    same k ne = puts-clear gave tab (320 * n) k (omega (arith, length-one ((i + 1) % 256)))
+    same k ne = puts-off gave tab (320 * n) (320 * n + k) (omega (arith, length-one ((i + 1) % 256)))
 
     s2 : (k : ℕ) → k ≢ 34 → k + 1 ≢ 34 → t2 (puts tab (320 * n) gave) n k ≡ t2 tab n k
     s2 k b c = t2-same tab (puts tab (320 * n) gave) n k (same k b) (same (k + 1) c)
@@ -72,7 +72,7 @@ module _ (M S : ℕ) (z : Shape M S) (ds : List ℕ) (d : Listing S ds) (img tab
       before = λ q. s2 30 (omega arith) (omega arith) ∙ w .before q;
       after = λ q t. w .after q (sym (s2 30 (omega arith) (omega arith)) ∙ t);
       link = λ q. s2 64 (omega arith) (omega arith) ∙ w .link q;
-      at = puts-at gave tab (320 * n) 0 0 34 (omega arith) (omega (arith, length-one ((i + 1) % 256))) (omega arith) (in-table 34 (omega arith)) tt ∙ one-head ((i + 1) % 256);
+      at = puts-at gave tab (320 * n) 0 0 (320 * n + 34) (omega arith) (omega (arith, length-one ((i + 1) % 256))) (omega arith) (in-table 34 (omega arith)) tt ∙ one-head ((i + 1) % 256);
       within = λ q. omega (arith, wi);
       buffer = λ q k b. same (68 + k) (omega arith) ∙ w .buffer h k b;
     }
@@ -126,24 +126,24 @@ module _ (M S : ℕ) (z : Shape M S) (ds : List ℕ) (d : Listing S ds) (img tab
 
     lsame : (i : ℕ) → (i < 30) → tb tab′ n i ≡ tb tab n i
     unfolding two one
-    lsame i b = puts-clear ps tab (320 * n) i (omega (arith, b))
+    lsame i b = puts-off ps tab (320 * n) (320 * n + i) (omega (arith, b))
 
     lsame′ : (i : ℕ) → (35 ≤ i) × (i < 64) → tb tab′ n i ≡ tb tab n i
     unfolding two one
-    lsame′ i b = puts-clear ps tab (320 * n) i (omega (arith, b, l2))
+    lsame′ i b = puts-off ps tab (320 * n) (320 * n + i) (omega (arith, b, l2))
 
     buf : (i : ℕ) → i < 256 → tb tab′ n (64 + i) ≡ getD img (256 * k + i) 0
     unfolding two one
     buf i b =
-        puts-at ps tab (320 * n) 2 i (64 + i) (omega arith) (omega (arith, l256)) refl (in-table (64 + i) (omega arith)) (omega arith)
+        puts-at ps tab (320 * n) 2 i (320 * n + (64 + i)) (omega arith) (omega (arith, l256)) (omega arith) (in-table (64 + i) (omega arith)) (omega arith)
         ∙ part-at img (256 * k) 256 i b
 
     pos : t2 tab′ n 30 ≡ adr S k
     unfolding two one
     pos =
         word-put tab′ (320 * n + 30) (adr S k) (adr-small M S z k k-pos k-high)
-        (puts-at ps tab (320 * n) 0 0 30 (omega arith) (omega arith) (omega arith) (in-table 30 (omega arith)) (omega (arith, l2)))
-        (ap (λ (p : ℕ). getD tab′ p 0) (omega arith) ∙ puts-at ps tab (320 * n) 0 1 31 (omega arith) (omega arith) (omega arith) (in-table 31 (omega arith)) (omega (arith, l2)))
+        (puts-at ps tab (320 * n) 0 0 (320 * n + 30) (omega arith) (omega arith) (omega arith) (in-table 30 (omega arith)) (omega (arith, l2)))
+        (ap (λ (p : ℕ). getD tab′ p 0) (omega arith) ∙ puts-at ps tab (320 * n) 0 1 (320 * n + 31) (omega arith) (omega arith) (omega arith) (in-table 31 (omega arith)) (omega (arith, l2)))
 
     data252 : (c : ℕ) → c < 252 → getD img (256 * k + (4 + c)) 0 ≡ getD (getD (f .body) j []) c 0
     data252 c b =
@@ -164,7 +164,7 @@ module _ (M S : ℕ) (z : Shape M S) (ds : List ℕ) (d : Listing S ds) (img tab
       after = λ q t. omega (arith, pos, adr-pos M S z k k-pos k-high);
       link = λ q. word-same img tab′ (256 * k) (320 * n + 64) (buf 0 (omega arith) ∙ ap (λ (p : ℕ). getD img p 0) (omega arith)) (ap (λ (p : ℕ). getD tab′ p 0) (omega arith) ∙ buf 1 (omega arith))
           ∙ seg-at S img l j jl ((h .chain (w .alive)) .seg);
-      at = puts-at ps tab (320 * n) 3 0 34 (omega arith) (omega arith) (omega arith) (in-table 34 (omega arith)) tt;
+      at = puts-at ps tab (320 * n) 3 0 (320 * n + 34) (omega arith) (omega arith) (omega arith) (in-table 34 (omega arith)) tt;
       within = λ q. omega arith;
       buffer = λ q c b. ap (λ (p : ℕ). getD tab′ p 0) (omega arith) ∙ buf (4 + c) (omega arith) ∙ data252 c b
           ∙ ap (λ (x : ℕ). getD (getD (f .body) x []) c 0) (omega arith);
@@ -215,7 +215,7 @@ module _ (M S : ℕ) (z : Shape M S) (ds : List ℕ) (d : Listing S ds) (img tab
 
   rsame : (k : ℕ) → 2 ≤ k → k ≢ 30 → k ≢ 31 → k ≢ 34 → tb (puts tab (320 * n) rs) n k ≡ tb tab n k
   unfolding one two
-  rsame k b0 b1 b2 b3 = puts-clear rs tab (320 * n) k (omega arith)
+  rsame k b0 b1 b2 b3 = puts-off rs tab (320 * n) (320 * n + k) (omega arith)
 
   rewind-now : Reading S (slotsOf ds) (puts tab (320 * n) rs) n f s 0 0
   unfolding one two
@@ -228,11 +228,11 @@ module _ (M S : ℕ) (z : Shape M S) (ds : List ℕ) (d : Listing S ds) (img tab
     start = t2-same tab (puts tab (320 * n) rs) n 17 (rsame 17 (omega arith) (omega arith) (omega arith) (omega arith)) (rsame 18 (omega arith) (omega arith) (omega arith) (omega arith)) ∙ w .start;
     loaded = omega arith;
     before = λ q. word-put (puts tab (320 * n) rs) (320 * n + 30) 0 (omega arith)
-        (puts-at rs tab (320 * n) 1 0 30 (omega arith) (omega arith) (omega arith) (in-table 30 (omega arith)) (omega arith))
-        (ap (λ (p : ℕ). getD (puts tab (320 * n) rs) p 0) (omega arith) ∙ puts-at rs tab (320 * n) 1 1 31 (omega arith) (omega arith) (omega arith) (in-table 31 (omega arith)) (omega arith));
+        (puts-at rs tab (320 * n) 1 0 (320 * n + 30) (omega arith) (omega arith) (omega arith) (in-table 30 (omega arith)) (omega arith))
+        (ap (λ (p : ℕ). getD (puts tab (320 * n) rs) p 0) (omega arith) ∙ puts-at rs tab (320 * n) 1 1 (320 * n + 31) (omega arith) (omega arith) (omega arith) (in-table 31 (omega arith)) (omega arith));
     after = λ q. absurd (omega arith);
     link = λ q. absurd (omega arith);
-    at = puts-at rs tab (320 * n) 2 0 34 (omega arith) (omega arith) (omega arith) (in-table 34 (omega arith)) tt;
+    at = puts-at rs tab (320 * n) 2 0 (320 * n + 34) (omega arith) (omega arith) (omega arith) (in-table 34 (omega arith)) tt;
     within = λ q. absurd (omega arith);
     buffer = λ q. absurd (omega arith);
   }

@@ -25,7 +25,7 @@ use Rattle.chains.specs.Addresses.{adr, absurd-bool}
 use Rattle.chains.specs.Chain.{first, lastOf, Chain, tally-last, first-in, last-append, seg-same, chain-same, empty, contents-same}
 use Rattle.chains.specs.Moves.{hung-on}
 use Rattle.chains.specs.Directory.{Listing}
-use Rattle.chains.specs.Stored.{stored-off, stored-at, puts-clear}
+use Rattle.laws.specs.Stores.{stored-off, stored-at, puts-off}
 use Rattle.chains.specs.Frame.{Frame, framed, Lies, in-record, in-sector, in-slot, of-nothing}
 use Rattle.demands.specs.Ledger.{File, noFile, Block, closed, Ledger, denied, granted, Sought, nowhere, slot, onSought, fileNamed, busy, attributes, onFile, withMark, withName, deleted, renamed}
 use Rattle.demands.specs.Diskette.{request}
@@ -195,8 +195,8 @@ module _ (M S : ℕ) (z : Shape M S) (ds : List ℕ) (d : Listing S ds) (img tab
 
     gone-kept : Keeps S (slotsOf ds) tab′ n (set (a .slots) s (withMark f)) (getD (a .blocks) n closed)
     gone-kept =
-        idle-kept M S z ds d img tab a r n hn tab′ (set (a .slots) s (withMark f)) oz (puts-clear ps tab (320 * n) 2 (omega (arith, lp)))
-        (tp-same tab tab′ n (λ i h. puts-clear ps tab (320 * n) i (omega (arith, lp, h))))
+        idle-kept M S z ds d img tab a r n hn tab′ (set (a .slots) s (withMark f)) oz (puts-off ps tab (320 * n) (320 * n + 2) (omega (arith, lp)))
+        (tp-same tab tab′ n (λ i h. puts-off ps tab (320 * n) (320 * n + i) (omega (arith, lp, h))))
 
     nobody : (n′ : ℕ) → n′ < 8 → n′ ≢ n → opens (getD (a .blocks) n′ closed) ≢ suc s
     nobody n′ h e = not-open s (getD (a .blocks) n′ closed) (not-busy true s (a .blocks) 8 n′ free h)
@@ -256,8 +256,8 @@ module _ (M S : ℕ) (z : Shape M S) (ds : List ℕ) (d : Listing S ds) (img tab
 
       named-kept : Keeps S (slotsOf ds) tab″ n (set (a .slots) s (withName f nn)) (getD (a .blocks) n closed)
       named-kept =
-          idle-kept M S z ds d img tab a r n hn tab″ (set (a .slots) s (withName f nn)) oz (puts-clear qs tab (320 * n) 2 (omega (arith, ln)))
-          (tp-same tab tab″ n (λ i h. puts-clear qs tab (320 * n) i (omega (arith, ln, h))))
+          idle-kept M S z ds d img tab a r n hn tab″ (set (a .slots) s (withName f nn)) oz (puts-off qs tab (320 * n) (320 * n + 2) (omega (arith, ln)))
+          (tp-same tab tab″ n (λ i h. puts-off qs tab (320 * n) (320 * n + i) (omega (arith, ln, h))))
 
       off : (p : ℕ) → (o ≤ p → p < o + 11 → ⊥) → getD img″ p 0 ≡ getD img p 0
       off p h = slot-off M S z ds d img tab a r s hs 0 nn short p (λ u v. h (omega arith) (omega (arith, ln)))

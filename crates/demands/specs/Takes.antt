@@ -14,14 +14,16 @@ use Rattle.rules.specs.Stores.{Store, store, stored, Put, put, puts}
 use Rattle.rules.specs.Directory.{slotsOf}
 use Rattle.rules.specs.Outcome.{andThen}
 use Rattle.rules.specs.Transfer.{fresh, takeStores, takePuts, takeFor, takeSector, sent, fill, writing as writeByte}
-use Rattle.laws.specs.Bytes.{word-put, part-is, part-same, length-zeros, zeros-at}
+use Rattle.laws.specs.Bytes.{word-put, part-is, part-same, length-zeros, zeros-at, length-fresh, fresh-zero}
 use Rattle.chains.specs.Tally.{tally, tally-append, tally-head, eq1-same, apart, eq1-ne}
 use Rattle.laws.specs.Addresses.{Shape}
 use Rattle.chains.specs.Addresses.{adr, adr-zero, absurd-bool}
 use Rattle.chains.specs.Chain.{first, lastOf, Chain, tally-last, last-snoc, contents-same, contents-append}
 use Rattle.chains.specs.Moves.{taken-off, hung-on}
 use Rattle.chains.specs.Directory.{Listing}
-use Rattle.chains.specs.Stored.{Off, fieldOf, valuesOf, noPut, Clear, stored-off, stored-at, puts-clear, puts-at, length-fresh, fresh-link, fresh-data, length-snoc}
+use Rattle.laws.specs.Each.{Each}
+use Rattle.chains.specs.Snoc.{length-snoc}
+use Rattle.laws.specs.Stores.{Off, inImage, Piece, begins, bytesOf, none, inBlock, stored-off, stored-at, puts-off, puts-at}
 use Rattle.chains.specs.Frame.{Frame, framed, Lies, in-record, in-sector, in-slot, of-nothing}
 use Rattle.demands.specs.Ledger.{File, noFile, closed, writing, Ledger, Request, denied, granted, onFile, withNew, taken, transferred}
 use Rattle.demands.specs.Relation.{tb, t2, opens, writes, Holds, Writing, Agrees, tp-same, step, long}
@@ -107,7 +109,7 @@ module _ (M S : ℕ) (z : Shape M S) (ds : List ℕ) (d : Listing S ds) (img tab
 
   off : (p : ℕ) → (541 ≤ p → p < 547 → ⊥) → (256 * k ≤ p → p < 256 * k + 256 → ⊥)
       → (1 ≤ length l → 256 * lastOf l 0 ≤ p → p < 256 * lastOf l 0 + 2 → ⊥)
-      → (o + 13 ≤ p → p < o + 19 → ⊥) → Off p takeS
+      → (o + 13 ≤ p → p < o + 19 → ⊥) → Each (Off p) (inImage takeS)
   unfolding six
   off p a b c d =
       ((λ u v. a (omega arith) (omega arith)), ((λ u v. b (omega arith) (omega (arith, length-fresh (length l + 1)))), (third p c, ((λ u v. d (omega arith) (omega arith)), tt))))
@@ -149,7 +151,7 @@ module _ (M S : ℕ) (z : Shape M S) (ds : List ℕ) (d : Listing S ds) (img tab
       )
 
   -- the records of free chain and slot
-  slotoff : (p : ℕ) → p < 1024 → Off p (drop 1 takeS)
+  slotoff : (p : ℕ) → p < 1024 → Each (Off p) (inImage (drop 1 takeS))
   unfolding six
   slotoff p b = ((λ u v. omega (arith, klow, z .sectors)), (third p (λ o u v. omega (arith, ql o, z .sectors)), ((λ u v. omega (arith, olow)), tt)))
 
@@ -222,7 +224,7 @@ module _ (M S : ℕ) (z : Shape M S) (ds : List ℕ) (d : Listing S ds) (img tab
         date = part-same img img′ (o + 19) (o + 19) 5 (λ i b. in-slot-late (19 + i) (o + 19 + i) (omega arith) (omega arith) (omega arith)) ∙ h .date;
         chain = λ v. hung-on S img img′ (o + 13) l (k ∷ []) c (λ x. omega (arith, tk x))
             (λ j i t ne b. sector j i (secs-data M S z ds d img tab a r s hs j t .0) (in-l j t) (omega arith) (λ o q. absurd (ne q))) link-is
-            (word-put img′ (256 * k) 0 (omega arith) (ap (λ (p : ℕ). getD img′ p 0) (omega arith) ∙ new 0 (omega arith) ∙ fresh-link (length l + 1) 0 (omega arith)) (new 1 (omega arith) ∙ fresh-link (length l + 1) 1 (omega arith)) ∙ sym (adr-zero S), tt)
+            (word-put img′ (256 * k) 0 (omega arith) (ap (λ (p : ℕ). getD img′ p 0) (omega arith) ∙ new 0 (omega arith) ∙ fresh-zero (length l + 1) 0 (omega arith) (omega arith)) (new 1 (omega arith) ∙ fresh-zero (length l + 1) 1 (omega arith) (omega arith)) ∙ sym (adr-zero S), tt)
             (record {
               x = adr S (first l′ 0);
               y = adr S k;
@@ -241,7 +243,7 @@ module _ (M S : ℕ) (z : Shape M S) (ds : List ℕ) (d : Listing S ds) (img tab
             (contents-same img img′ l
             (λ j i t u b. sector j i (secs-data M S z ds d img tab a r s hs j t .0) (in-l j t) b (λ o q. omega arith)) ∙ sym (h .body))
             (ap (λ (x : List ℕ). x ∷ []) (part-is img′ (256 * k + 4) 252 (zeros 252) (length-zeros 252)
-            (λ i b. ap (λ (p : ℕ). getD img′ p 0) (omega arith) ∙ new (4 + i) (omega arith) ∙ fresh-data (length l + 1) (4 + i) (omega arith) ∙ sym (zeros-at 252 i)))));
+            (λ i b. ap (λ (p : ℕ). getD img′ p 0) (omega arith) ∙ new (4 + i) (omega arith) ∙ fresh-zero (length l + 1) (4 + i) (omega arith) (omega arith) ∙ sym (zeros-at 252 i)))));
       }
     where
       at : (i p : ℕ) → i < 6 → o + 13 + i ≡ p → getD img′ p 0 ≡ getD (six (adr S (first l′ 0)) (adr S k) (length l + 1)) i 0
@@ -259,22 +261,25 @@ module _ (M S : ℕ) (z : Shape M S) (ds : List ℕ) (d : Listing S ds) (img tab
 
     same : (i : ℕ) → (2 ≤ i) × (i < 17) → tb tab′ n i ≡ tb tab n i
     unfolding six two one
-    same i g = puts-clear (takeTs b) tab (320 * n) i (omega (arith, g))
+    same i g = puts-off (takeTs b) tab (320 * n) (320 * n + i) (omega (arith, g))
 
     same′ : (i : ℕ) → (35 ≤ i) × (i < 64) → tb tab′ n i ≡ tb tab n i
     unfolding six two one
-    same′ i g = puts-clear (takeTs b) tab (320 * n) i (omega (arith, g))
+    same′ i g = puts-off (takeTs b) tab (320 * n) (320 * n + i) (omega (arith, g))
 
-    at : (q j i : ℕ) → q < 7 → j < length (valuesOf (getD (takeTs b) q noPut)) → fieldOf (getD (takeTs b) q noPut) + j ≡ i
-        → i < 320 → Clear i (drop (suc q) (takeTs b)) → getD tab′ (320 * n + i) 0 ≡ getD (valuesOf (getD (takeTs b) q noPut)) j 0
-    at q j i g u v t o = puts-at (takeTs b) tab (320 * n) q j i (omega arith) u v (omega (arith, r .tlen)) o
+    abbrev pieces : List Piece
+    pieces = inBlock (320 * n) (takeTs b)
+
+    at : (q j i : ℕ) → q < 7 → j < length (bytesOf (getD pieces q none)) → begins (getD pieces q none) + j ≡ 320 * n + i → i < 320
+        → Each (Off (320 * n + i)) (drop (suc q) pieces) → getD tab′ (320 * n + i) 0 ≡ getD (bytesOf (getD pieces q none)) j 0
+    at q j i g u v t o = puts-at (takeTs b) tab (320 * n) q j (320 * n + i) (omega arith) u v (omega (arith, r .tlen)) o
 
     buf : (i : ℕ) → i < 252 → tb tab′ n (68 + i) ≡ getD (b ∷ []) i 0
     unfolding six two one
     buf zero u = at 5 0 (68 + 0) (omega arith) (omega arith) (omega arith) (omega arith) (omega arith)
     buf (suc i) u =
         at 1 (4 + suc i) (68 + suc i) (omega arith) (omega (arith, length-fresh (length l + 1))) (omega arith) (omega arith) (omega arith)
-        ∙ fresh-data (length l + 1) (4 + suc i) (omega arith)
+        ∙ fresh-zero (length l + 1) (4 + suc i) (omega arith) (omega arith)
 
     t2-at : (i v : ℕ) → v < 65536 → getD tab′ (320 * n + i) 0 ≡ v / 256 % 256 → getD tab′ (320 * n + (i + 1)) 0 ≡ v % 256 → t2 tab′ n i ≡ v
     t2-at i v g x y = word-put tab′ (320 * n + i) v g x (ap (λ (p : ℕ). getD tab′ p 0) (omega arith) ∙ y)
