@@ -2,7 +2,7 @@
 use mathlib.Core.Path.{_≡_, refl, sym, ap, _∙_}
 use mathlib.Core.Bool.{Bool, true, false}
 use mathlib.Core.Logic.{_⊎_, inl, inr}
-use mathlib.Core.List.{List, [], _∷_}
+use mathlib.Core.List.{List, []}
 use Prim.Native.Nat.{ℕ, zero, suc, _+_, _-_, _*_, _/_, _%_, _≤_, _<_}
 use native.Mathlib.Omega.{arith}
 use mir.Syntax.{w16, w64}
@@ -13,9 +13,8 @@ use borrow.Author.Tests.{eq-eqb, ne-eqb, le-leb, lt-leb, lt-ltb, le-ltb, ltb-tru
 use Rattle.laws.specs.Tests.{pick-all}
 use Rattle.rules.specs.Bytes.{pick, within, part, over, one, same}
 use Rattle.rules.specs.Directory.{placeOf}
-use Rattle.rules.specs.Stores.{Put, put}
-use Rattle.rules.specs.Outcome.{Effect, effect, Out, out, left}
-use Rattle.rules.specs.Block.{blockAt, activityIn, counts, uses, usedBelow, idle, onTable, presettable, presetIn, preset, extensions, extensionIn, extension}
+use Rattle.rules.specs.Outcome.{Effect, Out, out, left}
+use Rattle.rules.specs.Block.{activityIn, counts, uses, usedBelow, idle, onTable, presettable, presetIn, extensions, extensionIn}
 
 -- ---- which activities count
 

@@ -6,11 +6,10 @@ use Prim.Native.Nat.{ℕ, _+_}
 use native.Mathlib.Omega.{arith}
 use lib.ListN.{length, replicate, length-replicate}
 use borrow.Author.Tests.{eq-eqb, ne-eqb}
-use Rattle.rules.specs.Bytes.{pick, over, zeros}
-use Rattle.rules.specs.Image.{shapeRight, lastTrack, perTrack, freeCount}
+use Rattle.rules.specs.Bytes.{over, zeros}
+use Rattle.rules.specs.Image.{freeCount}
 use Rattle.rules.specs.Directory.{slots}
 use Rattle.rules.specs.Census.{filesOwners, owners, Survey, survey, census}
-use Rattle.laws.specs.Tests.{clash}
 use Rattle.laws.specs.Bytes.{over-append}
 use Rattle.disk.specs.Loaded.{shapeOf}
 use Rattle.disk.specs.Shapes.{right-is, wrong-is}

@@ -11,7 +11,7 @@ use borrow.Author.Tests.{eq-eqb, ne-eqb}
 use Rattle.rules.specs.Bytes.{pick, over, zeros}
 use Rattle.rules.specs.Image.{firstFree, lastFree, freeCount}
 use Rattle.rules.specs.Directory.{directoryRight, slots}
-use Rattle.rules.specs.Census.{holed, twins, freeRight, filesRight, numbersFrom, filesNumbers, listed, owners, eachOnce, Survey, survey, fault, concluded, census}
+use Rattle.rules.specs.Census.{holed, twins, freeRight, filesRight, numbersFrom, filesNumbers, listed, owners, eachOnce, Survey, survey, fault, concluded}
 use Rattle.laws.specs.Bytes.{over-append, length-zeros}
 use Rattle.laws.specs.Surveys.{length-numbers, length-owners, numbers-listed}
 use Rattle.census_laws.specs.Marks.{Marked, marked, marking, Marks, marking-once, once-short}

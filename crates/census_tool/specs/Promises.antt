@@ -1,5 +1,4 @@
 -- No second outcome fits the promise of a public function of this crate.
-use mathlib.Core.Path.{_≡_, sym, _∙_}
 use mathlib.Core.List.{List}
 use Prim.Native.Nat.{ℕ}
 use lib.ListN.{length}

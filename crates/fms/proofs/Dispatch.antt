@@ -1,5 +1,5 @@
 -- Laws of the dispatch: what a function leaves is what the call's `perform` leaves, where the code is that function's.
-use mathlib.Core.Path.{_≡_, refl}
+use mathlib.Core.Path.{_≡_}
 use mathlib.Core.List.{List, []}
 use Prim.Native.Nat.{ℕ, _+_}
 use lib.ListN.{getD}

@@ -1,18 +1,14 @@
 -- Laws of the call's layers, one for each way out of the code.
-use mathlib.Core.Path.{_≡_, refl, sym, ap, _∙_}
+use mathlib.Core.Path.{_≡_, refl, _∙_}
 use mathlib.Core.Bool.{Bool, true, false, not}
 use mathlib.Core.List.{List, []}
 use Prim.Native.Nat.{ℕ, _+_, _*_, _≤_, _<_}
-use native.Mathlib.Omega.{arith}
 use lib.ListN.{length, getD}
-use lib.Dec.{eqb, ltb}
 use borrow.Author.Tests.{eq-eqb, ne-eqb, lt-ltb, le-ltb}
 use Rattle.rules.specs.Bytes.{pick}
 use Rattle.rules.specs.Image.{lastTrack, perTrack, shapeRight}
-use Rattle.rules.specs.Outcome.{Outcome, refuse, Out, out, left, settled}
+use Rattle.rules.specs.Outcome.{refuse, Out, out, left, settled}
 use Rattle.rules.specs.Block.{blockAt}
-use Rattle.rules.specs.Transfer.{transfer, close}
-use Rattle.rules.specs.Files.{openRead, openWrite, rewind, openDirectory, nextSlot, readSector, delete, rename}
 use Rattle.rules.specs.Call.{served, fits, misfit, checked, perform, asked, call}
 use Rattle.laws.specs.Tests.{flag, flag-not-true, flag-not-false}
 use Rattle.disk.specs.declared.Shape.{Shape}

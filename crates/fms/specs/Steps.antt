@@ -1,5 +1,5 @@
 -- The call in steps, as the code makes them: what is asked once the image's shape is right.
-use mathlib.Core.Bool.{Bool, true, false}
+use mathlib.Core.Bool.{Bool}
 use mathlib.Core.List.{List}
 use Prim.Native.Nat.{ℕ}
 use lib.Dec.{eqb}

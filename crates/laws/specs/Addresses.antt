@@ -8,9 +8,9 @@ use native.Mathlib.Omega.{arith}
 use lib.Arith.{digits-lt, digits-div, digits-mod}
 use lib.ListN.{length}
 use lib.Dec.{eqb, leb}
-use borrow.Author.Tests.{leb-true, le-leb, eqb-true, eq-eqb}
+use borrow.Author.Tests.{le-leb, eqb-true, eq-eqb}
 use Rattle.rules.specs.Bytes.{within}
-use Rattle.rules.specs.Image.{mostTracks, mostSectors, lastTrack, perTrack, shapeRight, trackOf, sectorOf, index, isSector, isData, dataNumber}
+use Rattle.rules.specs.Image.{mostTracks, mostSectors, lastTrack, perTrack, shapeRight, trackOf, sectorOf, index, isData, dataNumber}
 use Rattle.rules.specs.Directory.{isDirectory}
 use Rattle.laws.specs.Tests.{both, within-is, within-true}
 
@@ -28,10 +28,7 @@ pub record Shape (M S : ℕ) : Type 0 where
   pub most-sectors : S ≤ mostSectors
 
 module _ (M S : ℕ) (z : Shape M S) where
-  -- how many sectors an image has, and data sectors
-  pub sectors-few : (M + 1) * S ≤ (mostTracks + 1) * mostSectors
-  sectors-few = product (M + 1) (mostTracks + 1) S mostSectors (omega (arith, z)) (z .most-sectors)
-
+  -- data sectors at the most, and sectors at the least
   pub data-few : M * S ≤ mostTracks * mostSectors
   data-few = product M mostTracks S mostSectors (z .most-tracks) (z .most-sectors)
 
@@ -92,17 +89,6 @@ data-is M S a h =
 pub data-true : (M S a : ℕ) → Lies 1 M 1 S a → isData M S a ≡ true
 unfolding isData
 data-true M S a l = rw (within-true 1 M (trackOf a) (l .track-low) (l .track-high)) (within-true 1 S (sectorOf a) (l .sector-low) (l .sector-high))
-
-pub sector-is : (M S a : ℕ) → isSector M S a ≡ true → Lies 0 M 1 S a
-unfolding isSector
-sector-is M S a h =
-    let q = both (leb (trackOf a) M) _ h in
-    let n = within-is 1 S (sectorOf a) (q .1) in
-    record { track-low = omega arith; track-high = leb-true _ M (q .0); sector-low = n .0; sector-high = n .1 }
-
-pub sector-true : (M S a : ℕ) → Lies 0 M 1 S a → isSector M S a ≡ true
-unfolding isSector
-sector-true M S a l = rw (le-leb (trackOf a) M (l .track-high)) (within-true 1 S (sectorOf a) (l .sector-low) (l .sector-high))
 
 pub directory-is : (S a : ℕ) → isDirectory S a ≡ true → Lies 0 0 5 S a
 unfolding isDirectory
@@ -211,17 +197,3 @@ module _ (t u S k : ℕ) (low : t * S ≤ k) (high : k < (u + 1) * S) (few : u <
   index-address =
       index-is t u S (addressOf S k) address-lies
       ∙ rw (high-byte, low-byte) (omega (arith, div-add-mod' k S))
-
--- a data sector of an image of this shape, from its index
-module _ (M S : ℕ) (z : Shape M S) (k : ℕ) (low : S ≤ k) (high : k < (M + 1) * S) where
-  from-track : 1 * S ≤ k
-  from-track = omega arith
-
-  pub data-address : isData M S (addressOf S k) ≡ true
-  data-address = data-true M S (addressOf S k) (address-lies 1 M S k from-track high (omega (arith, z)) (omega (arith, z)) (omega (arith, z)))
-
-  pub data-address-small : addressOf S k < 65536
-  data-address-small = address-small 1 M S k from-track high (omega (arith, z)) (omega (arith, z)) (omega (arith, z))
-
-  pub data-address-index : index S (addressOf S k) ≡ k
-  data-address-index = index-address 1 M S k from-track high (omega (arith, z)) (omega (arith, z)) (omega (arith, z))

@@ -1,18 +1,18 @@
 -- Bytes in a list: numbers of two bytes, parts, and what stands where after a store.
-use mathlib.Core.Path.{_≡_, refl, sym, ap, ap₂, _∙_, subst}
+use mathlib.Core.Path.{_≡_, refl, sym, ap, ap₂, _∙_}
 use mathlib.Core.Bool.{Bool, true, false}
 use mathlib.Core.List.{List, [], _∷_, _++_}
 use Prim.Native.Nat.{ℕ, zero, suc, _+_, _-_, _*_, _/_, _%_, _≤_, _<_}
 use native.Mathlib.Numerals.{add-one}
 use native.Mathlib.Omega.{arith}
-use lib.ListN.{length, getD, set, take, drop, replicate, List·getD-eq-default, length-set, length-replicate, getD-replicate, length-append, take-append-drop}
-use lib.Seq.{sets, length-sets, getD-set-other, getD-set-same, set-out, getD-drop, ext-getD, drop-cons, take-suc, length-take-le, take-all}
+use lib.ListN.{length, getD, set, take, drop, List·getD-eq-default, length-set, length-replicate, take-append-drop}
+use lib.Seq.{sets, length-sets, getD-set-other, getD-set-same, set-out, ext-getD, drop-cons, take-suc, length-take-le, take-all}
 use borrow.Author.Tests.{eq-eqb, ne-eqb, eqb-true}
 use lib.Dec.{eqb}
 use mathlib.Core.Logic.{_≢_}
 use Rattle.rules.specs.Transfer.{fresh}
 use Rattle.laws.specs.Tests.{never}
-use Rattle.rules.specs.Bytes.{pick, byteAt, wordAt, part, over, one, two, six, zeros, same}
+use Rattle.rules.specs.Bytes.{pick, wordAt, part, over, one, two, six, zeros, same}
 
 -- past the end a byte reads as 0
 pub byte-out : (m : List ℕ) (at : ℕ) → length m ≤ at → 0 ≡ getD m at 0
@@ -103,12 +103,6 @@ part-is m at n vs e s =
 
 pub part-same : (m m′ : List ℕ) (at at′ n : ℕ) → ((i : ℕ) → i < n → getD m′ (at′ + i) 0 ≡ getD m (at + i) 0) → part m′ at′ n ≡ part m at n
 part-same m m′ at at′ n s = part-is m′ at′ n (part m at n) (length-part m at n) (λ i b. s i b ∙ sym (part-at m at n i b))
-
--- the bytes of a rest are those of the whole
-pub part-drop : (at : ℕ) (m : List ℕ) (k n : ℕ) → part (drop at m) k n ≡ part m (at + k) n
-part-drop at m k n =
-    part-same m (drop at m) (at + k) k n
-    (λ i b. getD-drop at m (k + i) 0 ∙ ap (λ (j : ℕ). getD m j 0) (omega arith))
 
 pub part-slice : (m : List ℕ) (at n : ℕ) → at + n ≤ length m → part m at n ≡ take n (drop at m)
 unfolding part
@@ -277,19 +271,10 @@ pub length-fresh : (size : ℕ) → length (fresh size) ≡ 256
 unfolding fresh
 length-fresh size = simp length-set (length-zeros 256)
 
--- its link is 0,0 and its data are zeros; its record number is the size
+-- its link is 0,0 and its data are zeros
 pub fresh-zero : (size i : ℕ) → i ≢ 2 → i ≢ 3 → getD (fresh size) i 0 ≡ 0
 unfolding fresh
 fresh-zero size i h k =
     getD-set-other (set (zeros 256) 2 (size / 256 % 256)) 3 i (size % 256) 0 k
     ∙ getD-set-other (zeros 256) 2 i (size / 256 % 256) 0 h
     ∙ zeros-at 256 i
-
-pub fresh-record : (size : ℕ) → size < 65536 → wordAt (fresh size) 2 ≡ size
-unfolding fresh
-fresh-record size h =
-    let l : length (zeros 256) ≡ 256 = length-zeros 256 in
-    word-put (fresh size) 2 size h
-    (getD-set-other (set (zeros 256) 2 (size / 256 % 256)) 3 2 (size % 256) 0 (omega arith)
-    ∙ getD-set-same (zeros 256) 2 (size / 256 % 256) 0 (omega arith))
-    (getD-set-same (set (zeros 256) 2 (size / 256 % 256)) 3 (size % 256) 0 (rw length-set (omega arith)))

@@ -1,16 +1,16 @@
--- The directory: where its sectors and slots lie, what a scan finds, places and slots, and what leaves it as it is.
+-- The directory: where its sectors and slots lie, what a scan finds, places and slots.
 use mathlib.Core.Path.{_≡_, refl, sym, ap, _∙_}
-use mathlib.Core.Bool.{true, false}
+use mathlib.Core.Bool.{true}
 use mathlib.Core.List.{List, [], _∷_, _++_}
 use Prim.Native.Nat.{ℕ, zero, suc, _+_, _-_, _*_, _/_, _%_, _≤_, _<_}
 use native.Mathlib.Omega.{arith}
 use native.Mathlib.Decide.{decLt}
 use lib.ListN.{getD}
-use lib.Dec.{eqb, ltb}
-use borrow.Author.Tests.{eqb-true, eq-eqb, ltb-true}
+use lib.Dec.{eqb}
+use borrow.Author.Tests.{eqb-true, eq-eqb}
 use Rattle.rules.specs.Bytes.{within}
 use Rattle.rules.specs.Image.{index, linkOf}
-use Rattle.rules.specs.Directory.{isDirectory, stepTo, nextOf, onNext, mostOfDirectory, firstOfDirectory, ends, directoryRight, sectorsFrom, directory, slotsAt, firstSlotOf, slotsOf, slots, onSeen, scan, named, vacant, lookupOf, inDirectory, find, vacancy, member, isDisplacement, placed, placeOf, slotBehind}
+use Rattle.rules.specs.Directory.{isDirectory, stepTo, nextOf, onNext, mostOfDirectory, firstOfDirectory, directoryRight, sectorsFrom, directory, slotsAt, firstSlotOf, slotsOf, slots, onSeen, scan, named, vacant, lookupOf, inDirectory, find, vacancy, member, isDisplacement, placed, placeOf}
 use Rattle.rules.specs.declared.Next.{Next}
 use Rattle.rules.specs.declared.Next.the-variants.{End, To, Astray}
 use Rattle.rules.specs.declared.Seen.{Seen}
@@ -264,55 +264,3 @@ place-inj S o p few s t e =
     let a : (o / 256 + 1) % 256 ≡ (p / 256 + 1) % 256 = ap (λ (l : List ℕ). getD l 1 0) e in
     let b : o % 256 ≡ p % 256 = ap (λ (l : List ℕ). getD l 2 0) e in
     omega arith
-
--- the slot behind a slot
-slot-next : (S o : ℕ) → IsSlot S o → o % 256 < 232 → IsSlot S (o + 24)
-slot-next S o s h =
-    let r : (o + 24) % 256 ≡ o % 256 + 24 = omega arith in
-    let q : (o + 24) / 256 ≡ o / 256 = omega arith in
-    let t : (o + 24) % 256 ≤ 232 = omega arith in
-    record { sector-low = rw q (s .sector-low); sector-high = rw q (s .sector-high); low = omega arith; high = t; step = rw r (omega arith) }
-
-pub behind-is : (img : List ℕ) (S o p : ℕ) → IsSlot S o → slotBehind img S o ≡ At p → IsSlot S p
-unfolding slotBehind isDisplacement within
-behind-is img S o p s =
-    pick-cases P (ltb (o % 256) 232) (At (o + 24)) _
-    (λ e h. let q : o + 24 ≡ p = cc in rw (← q) (slot-next S o s (ltb-true (o % 256) 232 e)))
-    (λ e. onNext-all P (nextOf img S (o / 256)) Missing Broken (λ k. At (firstSlotOf k))
-    (λ h. clash (cc))
-    (λ h. clash (cc))
-    (λ k n h. let q : firstSlotOf k ≡ p = cc in rw (← q) (slot-made S k 16 (step-in S (linkOf img (o / 256)) k n) refl)))
-  where
-    P : Lookup → Type 0
-    P l = l ≡ At p → IsSlot S p
-
--- ---- images with the same links have the same directory
-
-onNext-same : {A : Type 0} (n m : Next) (e w : A) (f g : ℕ → A) → n ≡ m → ((k : ℕ) → m ≡ To k → f k ≡ g k) → onNext n e w f ≡ onNext m e w g
-onNext-same n End e w f g q h = rw q refl
-onNext-same n (To k) e w f g q h = rw q (h k refl)
-onNext-same n Astray e w f g q h = rw q refl
-
-module _ (img img′ : List ℕ) (S : ℕ) (same : (k : ℕ) → InDirectory S k → linkOf img′ k ≡ linkOf img k) where
-  on-same : {A : Type 0} (k : ℕ) (e w : A) (f g : ℕ → A) → InDirectory S k → ((j : ℕ) → InDirectory S j → f j ≡ g j)
-      → onNext (nextOf img′ S k) e w f ≡ onNext (nextOf img S k) e w g
-  on-same k e w f g h s =
-      onNext-same (nextOf img′ S k) (nextOf img S k) e w f g (ap (stepTo S) (same k h)) (λ j t. s j (step-in S (linkOf img k) j t))
-
-  sectors-same : (n k : ℕ) → InDirectory S k → sectorsFrom img′ S n k ≡ sectorsFrom img S n k
-  unfolding sectorsFrom
-  sectors-same zero k h = refl
-  sectors-same (suc n) k h = ap (λ (l : List ℕ). k ∷ l) (on-same k [] [] _ _ h (λ j i. sectors-same n j i))
-
-  ends-same : (n k : ℕ) → InDirectory S k → ends img′ S n k ≡ ends img S n k
-  unfolding ends
-  ends-same zero k h = refl
-  ends-same (suc n) k h = on-same k true false _ _ h (λ j i. ends-same n j i)
-
-  pub directory-same : 5 ≤ S → directory img′ S ≡ directory img S
-  unfolding directory
-  directory-same h = sectors-same (mostOfDirectory S) firstOfDirectory (omega arith)
-
-  pub right-same : 5 ≤ S → directoryRight img′ S ≡ directoryRight img S
-  unfolding directoryRight
-  right-same h = ends-same (mostOfDirectory S) firstOfDirectory (omega arith)

@@ -5,10 +5,10 @@ use mathlib.Core.List.{List, [], _∷_, _++_}
 use Prim.Native.Nat.{ℕ, zero, suc, _+_, _*_, _≤_, _<_}
 use native.Mathlib.Omega.{arith}
 use lib.ListN.{length, getD, drop}
-use Rattle.rules.specs.Bytes.{byteAt, wordAt, part, over}
+use Rattle.rules.specs.Bytes.{byteAt, over}
 use Rattle.rules.specs.Stores.{Store, store, stored, Put, put, puts}
 use Rattle.rules.specs.Block.{blockLength, blockAt}
-use Rattle.laws.specs.Bytes.{length-over, over-other, over-in, word-same, part-same}
+use Rattle.laws.specs.Bytes.{length-over, over-other, over-in}
 use Rattle.laws.specs.Each.{Each}
 use Rattle.laws.specs.Small.{Small, small-over}
 
@@ -59,19 +59,6 @@ laid-at (p ∷ ps) m zero i at h k e l o =
 laid-at (p ∷ ps) m (suc q) i at h k e l o =
     laid-at ps (over m (begins p) (bytesOf p)) q i at (omega arith) k e (omega (arith, length-over m (begins p) (bytesOf p))) o
 
--- n bytes from a place on that no piece covers
-abbrev pub Clear : ℕ → ℕ → List Piece → Type 0
-Clear at n ps = (i : ℕ) → i < n → Each (Off (at + i)) ps
-
-pub laid-part : (ps : List Piece) (m : List ℕ) (at n : ℕ) → Clear at n ps → part (laid m ps) at n ≡ part m at n
-laid-part ps m at n c = part-same m (laid m ps) at at n (λ i h. laid-off ps m (at + i) (c i h))
-
-pub laid-word : (ps : List Piece) (m : List ℕ) (at : ℕ) → Clear at 2 ps → wordAt (laid m ps) at ≡ wordAt m at
-laid-word ps m at c =
-    word-same m (laid m ps) at at
-    (laid-off ps m at (subst (λ (k : ℕ). Each (Off k) ps) (omega arith) (c 0 (omega arith))))
-    (laid-off ps m (at + 1) (c 1 (omega arith)))
-
 -- bytes below 256 stay below
 pub small-laid : (ps : List Piece) (m : List ℕ) → Small m → Each (λ (p : Piece). Small (bytesOf p)) ps → Small (laid m ps)
 small-laid [] m s h = s
@@ -108,18 +95,6 @@ stored-at ss img q i at h k e l o = rw (stored-laid ss img) (laid-at (inImage ss
 -- a store lies inside one sector, which lies inside an image of n bytes
 abbrev pub Inside : ℕ → Store → Type 0
 Inside n (store k i vs) = (i + length vs ≤ 256) × (256 * k + 256 ≤ n)
-
--- it is in another sector than j
-abbrev pub Elsewhere : ℕ → Store → Type 0
-Elsewhere j (store k i vs) = (i + length vs ≤ 256) × (j ≢ k)
-
-off-elsewhere : (ss : List Store) (j i : ℕ) → i < 256 → Each (Elsewhere j) ss → Each (Off (256 * j + i)) (inImage ss)
-off-elsewhere [] j i h e = tt
-off-elsewhere (store k p vs ∷ ss) j i h e = ((λ a b. e .0 .1 (omega (arith, e .0 .0))), off-elsewhere ss j i h (e .1))
-
--- a sector to which nothing is stored is as it was
-pub stored-elsewhere : (ss : List Store) (img : List ℕ) (j i : ℕ) → i < 256 → Each (Elsewhere j) ss → byteAt (stored img ss) (256 * j + i) ≡ byteAt img (256 * j + i)
-stored-elsewhere ss img j i h e = stored-off ss img (256 * j + i) (off-elsewhere ss j i h e)
 
 abbrev pub SmallStore : Store → Type 0
 SmallStore (store k i vs) = Small vs

@@ -1,11 +1,11 @@
 -- 01, "File control block": its fields, the table, blocks in use; the entries preset and default extension.
 use mathlib.Core.Bool.{Bool, true, false}
-use mathlib.Core.List.{List, [], _∷_, _++_}
+use mathlib.Core.List.{List, [], _∷_}
 use Prim.Native.Nat.{ℕ, zero, suc, _+_, _*_}
 use lib.ListN.{length, getD}
 use lib.Dec.{eqb, ltb}
 use Rattle.rules.specs.Bytes.{pick, within, byteAt, wordAt, part, one, same}
-use Rattle.rules.specs.Stores.{Put, put}
+use Rattle.rules.specs.Stores.{put}
 use Rattle.rules.specs.Outcome.{Effect, effect}
 
 -- "a table of eight file control blocks (FCBs) of 320 bytes, 2,560 in all"

@@ -1,11 +1,11 @@
 -- 01, "Numbers given back": the order of checks for every FMS call; the call.
-use mathlib.Core.Bool.{Bool, true, false}
+use mathlib.Core.Bool.{Bool, true}
 use mathlib.Core.List.{List}
 use Prim.Native.Nat.{ℕ}
 use lib.Dec.{eqb}
 use Rattle.rules.specs.Bytes.{pick, within}
 use Rattle.rules.specs.Image.{lastTrack, perTrack, shapeRight}
-use Rattle.rules.specs.Outcome.{Outcome, refuse, unless, Effect, settled}
+use Rattle.rules.specs.Outcome.{Outcome, unless, Effect, settled}
 use Rattle.rules.specs.Block.{blockAt, functionIn, activityIn, driveIn, idle, onTable}
 use Rattle.rules.specs.Transfer.{transfer, close}
 use Rattle.rules.specs.Files.{openRead, openWrite, rewind, openDirectory, nextSlot, readSector, delete, rename}

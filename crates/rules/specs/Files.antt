@@ -8,7 +8,7 @@ use Rattle.rules.specs.Stores.{Store, store, Put, put}
 use Rattle.rules.specs.Image.{index, isSector, isData, infoSector, firstFree, lastFree, freeCount}
 use Rattle.rules.specs.Names.{legal}
 use Rattle.rules.specs.Directory.{directoryRight, firstOfDirectory, firstSlotOf, find, vacancy, placeOf, slotBehind, attributesAt, startAt, endAt, sizeAt}
-use Rattle.rules.specs.Outcome.{Outcome, refuse, done, unless, when, onSlot, onNone}
+use Rattle.rules.specs.Outcome.{Outcome, done, unless, when, onSlot, onNone}
 use Rattle.rules.specs.Block.{functionField, activityField, nameField, positionField, indexField, placeField, newNameField, compressionField, bufferField, nameIn, dateIn, positionIn, placeIn, newNameIn, inUse}
 use Rattle.rules.specs.Transfer.{slotIn, linked, mark}
 

@@ -1,5 +1,4 @@
 -- 01, "What the service does": the entries as a host program in C or Rust reaches them, on numbers and byte slices.
-use mathlib.Core.Bool.{Bool, true, false}
 use mathlib.Core.List.{List, [], _∷_, _++_}
 use Prim.Native.Nat.{ℕ, _+_, _*_}
 use lib.ListN.{length, replicate}

@@ -1,9 +1,9 @@
 -- 01, "Image": shape, addresses, links, the information record.
-use mathlib.Core.Bool.{Bool, true, false}
+use mathlib.Core.Bool.{Bool, false}
 use mathlib.Core.List.{List}
 use Prim.Native.Nat.{ℕ, _+_, _-_, _*_, _/_, _%_}
 use lib.ListN.{length}
-use lib.Dec.{eqb, leb, ltb}
+use lib.Dec.{eqb, leb}
 use Rattle.rules.specs.Bytes.{pick, within, byteAt, wordAt}
 
 -- "1 ≤ M ≤ 79 and 5 ≤ S ≤ 36"

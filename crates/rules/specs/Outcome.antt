@@ -1,5 +1,5 @@
 -- 01, "Numbers given back": what a function comes to, and what that does to image and block.
-use mathlib.Core.Bool.{Bool, true, false}
+use mathlib.Core.Bool.{Bool}
 use mathlib.Core.List.{List, [], _∷_, _++_}
 use Prim.Native.Nat.{ℕ}
 use Rattle.rules.specs.Bytes.{pick, one}

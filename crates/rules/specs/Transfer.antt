@@ -1,5 +1,5 @@
 -- 01, "The ten functions": function 0, reading and writing; 4, close; taking a sector. The block begins at f.
-use mathlib.Core.Bool.{Bool, true, false}
+use mathlib.Core.Bool.{Bool, true}
 use mathlib.Core.List.{List, [], _∷_, _++_}
 use Prim.Native.Nat.{ℕ, _+_, _-_, _*_, _/_, _%_}
 use lib.ListN.{set}
@@ -8,7 +8,7 @@ use Rattle.rules.specs.Bytes.{pick, byteAt, wordAt, part, one, two, six,
 use Rattle.rules.specs.Stores.{Store, store, Put, put}
 use Rattle.rules.specs.Image.{index, isData, linkOf, infoSector, firstFree, lastFree, freeCount}
 use Rattle.rules.specs.Directory.{placed}
-use Rattle.rules.specs.Outcome.{Outcome, refuse, done, unless, when, onSlot, andThen}
+use Rattle.rules.specs.Outcome.{Outcome, done, unless, when, onSlot, andThen}
 use Rattle.rules.specs.Block.{activityField, startField, positionField, recordField, indexField, placeField, bufferField, activityIn, startIn, sizeIn, positionIn, indexIn}
 use Rattle.rules.specs.declared.Lookup.{Lookup}
 

@@ -1,5 +1,4 @@
 -- Close in writing as the code does it: the two ways that store.
-use mathlib.Core.Bool.{Bool}
 use mathlib.Core.List.{List, [], _∷_}
 use Prim.Native.Nat.{ℕ, _+_}
 use Rattle.rules.specs.Bytes.{part}

@@ -1,7 +1,7 @@
 -- No second outcome fits the promise of a public function of this crate.
-use mathlib.Core.Path.{_≡_, refl, ap, sym, _∙_}
+use mathlib.Core.Path.{_≡_, ap}
 use mathlib.Core.List.{List}
-use Prim.Native.Nat.{ℕ, _<_}
+use Prim.Native.Nat.{ℕ}
 use native.Mathlib.Omega.{arith}
 use Rattle.rules.specs.Outcome.{out, left, settled}
 use Rattle.rules.specs.Transfer.{reading, writing, close}

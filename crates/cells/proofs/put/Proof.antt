@@ -1,5 +1,4 @@
 use mathlib.Core.Path.{sym}
-use native.Mathlib.Omega.{arith}
 use borrow.Author.Needs.{needs}
 use Rattle.laws.specs.Bytes.{over-one, over-out}
 use Rattle.cells.proofs.put.Statement.{statement}
