@@ -19,6 +19,7 @@ use Rattle.laws.specs.Bytes.{same-refl, same-eq, part-at}
 use Rattle.chains.specs.Tally.{tally, tally-head, eq1, eq1-same, eq1-ne}
 use Rattle.laws.specs.Tests.{within-true}
 use Rattle.laws.specs.Addresses.{Shape}
+use Rattle.laws.specs.Slots.{IsSlot, slot-made, slots-member, placed-slot, place-inj}
 use Rattle.chains.specs.Addresses.{absurd-bool, adr, adr-zero, adr-pos, index-adr, directory-adr, directory-index}
 use Rattle.chains.specs.Chain.{first, Seg, seg-at, tally-getD, in-one}
 
@@ -280,6 +281,10 @@ module _ (S : ℕ) (ds : List ℕ) (d : Listing S ds) where
 
 -- ---- places
 
+row-true : (i : ℕ) → i < 10 → isDisplacement (16 + 24 * i) ≡ true
+unfolding isDisplacement
+row-true i h = rw (within-true 16 232 (16 + 24 * i) (omega arith) (omega arith)) (eq-eqb ((16 + 24 * i - 16) % 24) 0 (omega arith))
+
 member-in : (k : ℕ) (l : List ℕ) → 1 ≤ tally k l → member k l ≡ true
 unfolding member
 member-in k [] h = absurd (omega arith)
@@ -289,82 +294,44 @@ member-in k (j ∷ l) h = go (ℕ-discrete j k) (member-in k l)
     go (yes e) ih = rw (eq-eqb j k e) refl
     go (no e) ih = rw (ne-eqb j k e) (ih (omega (arith, eq1-ne k j (λ q. e (sym q)))))
 
-index-low : (S a k : ℕ) → a / 256 % 256 ≡ 0 → a % 256 ≡ a → a ≡ k + 1 → index S a ≡ k
-unfolding index
-index-low S a k h l e = rw (h, l) (omega arith)
+-- a slot that stands there is one, as `laws` says it
+spot-slot : (S : ℕ) (ds : List ℕ) (s o : ℕ) → Spot S ds s o → IsSlot S o
+spot-slot S ds s o w = rw (w .place) (slot-made S (w .k) (16 + 24 * w .i) (w .low, w .high) (row-true (w .i) (w .row)))
 
 -- the place of a slot, as a block has it, names that slot
 pub placed-spot : (M S : ℕ) → Shape M S → (img : List ℕ) (ds : List ℕ) → Listing S ds → Seg S img ds 0 → (s o : ℕ) → Spot S ds s o
     → (tab : List ℕ) (p : ℕ) → part tab p 3 ≡ placeOf o → placed img S (wordAt tab p) (byteAt tab (p + 2)) ≡ At o
-unfolding placed placeOf isDirectory isDisplacement wordAt
+unfolding placeOf wordAt
 placed-spot M S z img ds d g s o w tab p e =
     let r = directory-is M S z img ds d g in
-    let lo = w .low in
-    let hi = w .high in
-    let pl = w .place in
-    let ro = w .row in
+    let u = spot-slot S ds s o w in
+    let me : member (w .k) ds ≡ true = member-in (w .k) ds (subst (λ (x : ℕ). 1 ≤ tally x ds) (w .sector) (tally-getD ds (w .c) (w .nth))) in
+    let in-ds : member o (slotsOf ds) ≡ true = rw (w .place) (slots-member ds (w .k) (16 + 24 * w .i) me (row-true (w .i) (w .row))) in
     let b : (i : ℕ) → i < 3 → getD tab (p + i) 0 ≡ getD (0 ∷ (o / 256 + 1) % 256 ∷ o % 256 ∷ []) i 0 =
     λ i h. sym (part-at tab p 3 i h) ∙ ap (λ (l : List ℕ). getD l i 0) e in
     let b0 : getD tab p 0 ≡ 0 = ap (λ (x : ℕ). getD tab x 0) (omega arith) ∙ b 0 (omega arith) in
-    let v = spot-sector S ds s o w in
-    let b1 : getD tab (p + 1) 0 ≡ w .k + 1 = b 1 (omega arith) ∙ ap (λ (x : ℕ). (x + 1) % 256) (v .0) ∙ omega (arith, z .most-sectors) in
-    let b2 : getD tab (p + 2) 0 ≡ 16 + 24 * w .i = b 2 (omega arith) ∙ v .1 in
-    let t : 0 * 256 + (w .k + 1) ≡ w .k + 1 = omega arith in
-    let th : (w .k + 1) / 256 % 256 ≡ 0 = omega (arith, z .most-sectors) in
-    let tl : (w .k + 1) % 256 ≡ w .k + 1 = omega (arith, z .most-sectors) in
-    let ix : index S (w .k + 1) ≡ w .k = index-low S (w .k + 1) (w .k) th tl (omega arith) in
-    let q : 256 * w .k + (16 + 24 * w .i) ≡ o = sym pl in
-    let me : member (w .k) ds ≡ true = member-in (w .k) ds (subst (λ (x : ℕ). 1 ≤ tally x ds) (w .sector) (tally-getD ds (w .c) (w .nth))) in
-    rw (
-      r .0,
-      r .1,
-      b0,
-      b1,
-      b2,
-      t,
-      th,
-      tl,
-      ix,
-      within-true 5 S (w .k + 1) (omega arith) (omega arith),
-      me,
-      within-true 16 232 (16 + 24 * w .i) (omega arith) (omega arith),
-      eq-eqb ((16 + 24 * w .i - 16) % 24) 0 (omega arith),
-      q,
-    ) refl
-
-low-same : (x y : ℕ) → x < 255 → y < 255 → (x + 1) % 256 ≡ (y + 1) % 256 → x ≡ y
-low-same x y a b e = omega arith
+    let a : wordAt tab p ≡ o / 256 + 1 = omega (arith, b0, b 1 (omega arith), u .sector-high, z .most-sectors) in
+    rw (a, b 2 (omega arith))
+    (placed-slot img S o (omega (arith, z .most-sectors)) (record { right = r .0; one-of = rw (r .1) in-ds; slot = u }))
 
 -- two slots have two places
+places-differ : (S o o′ : ℕ) → S < 256 → IsSlot S o → IsSlot S o′ → o ≢ o′ → same (placeOf o) (placeOf o′) ≡ false
+places-differ S o o′ few u u′ ne = go (same (placeOf o) (placeOf o′)) refl
+  where
+    go : (b : Bool) → same (placeOf o) (placeOf o′) ≡ b → b ≡ false
+    go false q = refl
+    go true q = absurd (ne (place-inj S o o′ few u u′ (same-eq (placeOf o) (placeOf o′) q)))
+
 pub places-same : (M S : ℕ) → Shape M S → (ds : List ℕ) → Listing S ds → (s s′ : ℕ) → s < length (slotsOf ds) → s′ < length (slotsOf ds)
     → same (placeOf (getD (slotsOf ds) s 0)) (placeOf (getD (slotsOf ds) s′ 0)) ≡ eqb s s′
-unfolding placeOf
 places-same M S z ds d s s′ h h′ = go (ℕ-discrete s s′)
   where
-    o : ℕ
-    o = getD (slotsOf ds) s 0
-
-    o′ : ℕ
-    o′ = getD (slotsOf ds) s′ 0
-
     go : Dec (s ≡ s′) → same (placeOf (getD (slotsOf ds) s 0)) (placeOf (getD (slotsOf ds) s′ 0)) ≡ eqb s s′
     go (yes e) = rw (eq-eqb s s′ e, ← e) (same-refl (placeOf (getD (slotsOf ds) s 0)))
-    go (no e) = pick-no (same (placeOf (getD (slotsOf ds) s 0)) (placeOf (getD (slotsOf ds) s′ 0))) refl
-      where
-        pick-no : (b : Bool) → same (placeOf (getD (slotsOf ds) s 0)) (placeOf (getD (slotsOf ds) s′ 0)) ≡ b → b ≡ eqb s s′
-        pick-no false q = sym (ne-eqb s s′ e)
-        pick-no true q =
-            let l = same-eq (placeOf (getD (slotsOf ds) s 0)) (placeOf (getD (slotsOf ds) s′ 0)) q in
-            let w = spot S ds d s h in
-            let w′ = spot S ds d s′ h′ in
-            let x : (getD (slotsOf ds) s 0 / 256 + 1) % 256 ≡ (getD (slotsOf ds) s′ 0 / 256 + 1) % 256 = ap (λ (y : List ℕ). getD y 1 0) l in
-            let y : getD (slotsOf ds) s 0 % 256 ≡ getD (slotsOf ds) s′ 0 % 256 = ap (λ (y : List ℕ). getD y 2 0) l in
-            let v = spot-sector S ds s (getD (slotsOf ds) s 0) w in
-            let v′ = spot-sector S ds s′ (getD (slotsOf ds) s′ 0) w′ in
-            let x1 : (w .k + 1) % 256 ≡ (w′ .k + 1) % 256 = sym (ap (λ (c : ℕ). (c + 1) % 256) (v .0)) ∙ x ∙ ap (λ (c : ℕ). (c + 1) % 256) (v′ .0) in
-            let kk : w .k ≡ w′ .k = low-same (w .k) (w′ .k) (omega (arith, w .high, z .most-sectors)) (omega (arith, w′ .high, z .most-sectors)) x1 in
-            let q2 : getD (slotsOf ds) s 0 ≡ getD (slotsOf ds) s′ 0 = omega (arith, kk, y, v .1, v′ .1, w .place, w′ .place) in
-            absurd (slots-apart S ds d s s′ h h′ e 0 (omega arith) (omega (arith, q2)) (omega (arith, q2)))
+    go (no e) =
+        rw (ne-eqb s s′ e)
+        (places-differ S _ _ (omega (arith, z .most-sectors)) (spot-slot S ds s _ (spot S ds d s h)) (spot-slot S ds s′ _ (spot S ds d s′ h′))
+        (λ q. slots-apart S ds d s s′ h h′ e 0 (omega arith) (omega (arith, q)) (omega (arith, q))))
 
 -- the slot behind a slot
 pub behind : (M S : ℕ) → Shape M S → (img : List ℕ) (ds : List ℕ) → Listing S ds → Seg S img ds 0 → (s : ℕ) → s < length (slotsOf ds)
