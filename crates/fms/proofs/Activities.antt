@@ -3,7 +3,7 @@ use mathlib.Core.Path.{_≡_, refl}
 use mathlib.Core.Bool.{Bool, true, false}
 use Prim.Native.Nat.{ℕ, _≤_, _<_}
 use native.Mathlib.Omega.{arith}
-use lib.Dec.{eqb}
+use lib.Dec.{eqb, leb}
 use borrow.Author.Tests.{ne-eqb, le-leb, lt-leb}
 use Rattle.rules.specs.Bytes.{within}
 use Rattle.rules.specs.Block.{idle}
@@ -36,31 +36,17 @@ module _ (b : ℕ) where
   unfolding served within
   served-9 e = rw e refl
 
-  pub served-12 : 12 ≤ b → b < 14 → true ≡ served b
+  -- from 12 on
+  late : 12 ≤ b → served b ≡ leb b 13
   unfolding served within
-  served-12 h k =
-      rw (
-        le-leb 0 b (omega arith),
-        lt-leb b 2 (omega arith),
-        le-leb 4 b (omega arith),
-        lt-leb b 7 (omega arith),
-        ne-eqb b 9 (omega arith),
-        le-leb 12 b h,
-        le-leb b 13 (omega arith),
-      ) refl
+  late h =
+      rw (le-leb 0 b (omega arith), lt-leb b 2 (omega arith), le-leb 4 b (omega arith), lt-leb b 7 (omega arith), ne-eqb b 9 (omega arith), le-leb 12 b h) refl
+
+  pub served-12 : 12 ≤ b → b < 14 → true ≡ served b
+  served-12 h k = rw (late h, le-leb b 13 (omega arith)) refl
 
   pub served-14 : 14 ≤ b → false ≡ served b
-  unfolding served within
-  served-14 h =
-      rw (
-        le-leb 0 b (omega arith),
-        lt-leb b 2 (omega arith),
-        le-leb 4 b (omega arith),
-        lt-leb b 7 (omega arith),
-        ne-eqb b 9 (omega arith),
-        le-leb 12 b (omega arith),
-        lt-leb b 13 (omega arith),
-      ) refl
+  served-14 h = rw (late (omega arith), lt-leb b 13 (omega arith)) refl
 
 pub ruleset codes = (served-0, served-3, served-4, served-8, served-9, served-12, served-14)
 
