@@ -31,10 +31,13 @@ pub record Chain (S : ℕ) (m : List ℕ) (p : ℕ) (l : List ℕ) : Type 0 wher
   pub size : wordAt m (p + 4) ≡ length l
   pub seg : Seg S m l 0
 
--- the 252 bytes of each
+-- of each sector the n bytes from i on; its 252 bytes of data
+abbrev pub pieces : ℕ → ℕ → List ℕ → List ℕ → List (List ℕ)
+pieces i n m [] = []
+pieces i n m (k ∷ ks) = part m (256 * k + i) n ∷ pieces i n m ks
+
 abbrev pub contents : List ℕ → List ℕ → List (List ℕ)
-contents m [] = []
-contents m (k ∷ ks) = part m (256 * k + 4) 252 ∷ contents m ks
+contents m ks = pieces 4 252 m ks
 
 -- ---- where things stand
 
@@ -109,30 +112,30 @@ seg-hang S m m′ (k ∷ j ∷ l) r once s p g h = (
 
 -- ---- bytes
 
-pub contents-at : (m l : List ℕ) (j : ℕ) → j < length l → getD (contents m l) j [] ≡ part m (256 * getD l j 0 + 4) 252
-contents-at m [] j h = absurd (omega arith)
-contents-at m (k ∷ l) zero h = refl
-contents-at m (k ∷ l) (suc j) h = contents-at m l j (omega arith)
+pub pieces-at : (i n : ℕ) (m l : List ℕ) (j : ℕ) → j < length l → getD (pieces i n m l) j [] ≡ part m (256 * getD l j 0 + i) n
+pieces-at i n m [] j h = absurd (omega arith)
+pieces-at i n m (k ∷ l) zero h = refl
+pieces-at i n m (k ∷ l) (suc j) h = pieces-at i n m l j (omega arith)
 
-pub length-contents : (m l : List ℕ) → length (contents m l) ≡ length l
-length-contents m [] = refl
-length-contents m (k ∷ l) = ap suc (length-contents m l)
+pub length-pieces : (i n : ℕ) (m l : List ℕ) → length (pieces i n m l) ≡ length l
+length-pieces i n m [] = refl
+length-pieces i n m (k ∷ l) = ap suc (length-pieces i n m l)
 
-pub contents-append : (m a b : List ℕ) → contents m (a ++ b) ≡ contents m a ++ contents m b
-contents-append m [] b = refl
-contents-append m (k ∷ a) b = ap (λ (y : List (List ℕ)). part m (256 * k + 4) 252 ∷ y) (contents-append m a b)
+pub pieces-append : (i n : ℕ) (m a b : List ℕ) → pieces i n m (a ++ b) ≡ pieces i n m a ++ pieces i n m b
+pieces-append i n m [] b = refl
+pieces-append i n m (k ∷ a) b = ap (λ (y : List (List ℕ)). part m (256 * k + i) n ∷ y) (pieces-append i n m a b)
 
-data-same : (m m′ : List ℕ) (k : ℕ) → ((i : ℕ) → 4 ≤ i → i < 256 → getD m′ (256 * k + i) 0 ≡ getD m (256 * k + i) 0)
-    → part m′ (256 * k + 4) 252 ≡ part m (256 * k + 4) 252
-data-same m m′ k s =
-    part-same m m′ (256 * k + 4) (256 * k + 4) 252
-    (λ i h. subst (λ (p : ℕ). getD m′ p 0 ≡ getD m p 0) (omega arith) (s (4 + i) (omega arith) (omega arith)))
+piece-same : (i n : ℕ) (m m′ : List ℕ) (k : ℕ) → ((c : ℕ) → i ≤ c → c < i + n → getD m′ (256 * k + c) 0 ≡ getD m (256 * k + c) 0)
+    → part m′ (256 * k + i) n ≡ part m (256 * k + i) n
+piece-same i n m m′ k s =
+    part-same m m′ (256 * k + i) (256 * k + i) n
+    (λ c h. subst (λ (p : ℕ). getD m′ p 0 ≡ getD m p 0) (omega arith) (s (i + c) (omega arith) (omega arith)))
 
-pub contents-same : (m m′ l : List ℕ)
-    → ((j i : ℕ) → 1 ≤ tally j l → 4 ≤ i → i < 256 → getD m′ (256 * j + i) 0 ≡ getD m (256 * j + i) 0) → contents m′ l ≡ contents m l
-contents-same m m′ [] s = refl
-contents-same m m′ (k ∷ l) s =
-    ap₂ (λ (x : List ℕ) (y : List (List ℕ)). x ∷ y) (data-same m m′ k (λ i. s k i (tally-head k l))) (contents-same m m′ l (λ j i h. s j i (omega arith)))
+pub pieces-same : (i n : ℕ) (m m′ l : List ℕ)
+    → ((j c : ℕ) → 1 ≤ tally j l → i ≤ c → c < i + n → getD m′ (256 * j + c) 0 ≡ getD m (256 * j + c) 0) → pieces i n m′ l ≡ pieces i n m l
+pieces-same i n m m′ [] s = refl
+pieces-same i n m m′ (k ∷ l) s =
+    ap₂ (λ (x : List ℕ) (y : List (List ℕ)). x ∷ y) (piece-same i n m m′ k (λ c. s k c (tally-head k l))) (pieces-same i n m m′ l (λ j c h. s j c (omega arith)))
 
 -- the last of a list is another
 abbrev pub setLast : {A : Type 0} → List A → A → List A
@@ -140,15 +143,15 @@ setLast [] d = []
 setLast (x ∷ []) d = d ∷ []
 setLast (x ∷ y ∷ l) d = x ∷ setLast (y ∷ l) d
 
-pub contents-last : (m m′ l : List ℕ) (d : List ℕ) → ((x : ℕ) → tally x l ≤ 1)
-    → ((j i : ℕ) → 1 ≤ tally j l → j ≢ lastOf l 0 → i < 256 → getD m′ (256 * j + i) 0 ≡ getD m (256 * j + i) 0)
-    → (1 ≤ length l → part m′ (256 * lastOf l 0 + 4) 252 ≡ d) → contents m′ l ≡ setLast (contents m l) d
-contents-last m m′ [] d once s p = refl
-contents-last m m′ (k ∷ []) d once s p = ap (λ (x : List ℕ). x ∷ []) (p (omega arith))
-contents-last m m′ (k ∷ j ∷ l) d once s p =
+pub pieces-last : (i n : ℕ) (m m′ l : List ℕ) (d : List ℕ) → ((x : ℕ) → tally x l ≤ 1)
+    → ((j c : ℕ) → 1 ≤ tally j l → j ≢ lastOf l 0 → c < i + n → getD m′ (256 * j + c) 0 ≡ getD m (256 * j + c) 0)
+    → (1 ≤ length l → part m′ (256 * lastOf l 0 + i) n ≡ d) → pieces i n m′ l ≡ setLast (pieces i n m l) d
+pieces-last i n m m′ [] d once s p = refl
+pieces-last i n m m′ (k ∷ []) d once s p = ap (λ (x : List ℕ). x ∷ []) (p (omega arith))
+pieces-last i n m m′ (k ∷ j ∷ l) d once s p =
     ap₂ (λ (x : List ℕ) (y : List (List ℕ)). x ∷ y)
-    (data-same m m′ k (λ i a b. s k i (tally-head k (j ∷ l)) (last-else k j l (once k)) b))
-    (contents-last m m′ (j ∷ l) d (λ x. omega (arith, once x)) (λ x i h. s x i (omega arith)) (λ h. p (omega arith)))
+    (piece-same i n m m′ k (λ c a b. s k c (tally-head k (j ∷ l)) (last-else k j l (once k)) b))
+    (pieces-last i n m m′ (j ∷ l) d (λ x. omega (arith, once x)) (λ x c h. s x c (omega arith)) (λ h. p (omega arith)))
 
 -- ---- a chain's record and sectors that are not stored to
 

@@ -1,170 +1,253 @@
 -- THE THREE DEMANDS, as predicates over services.
 use mathlib.Core.Path.{_≡_}
 use mathlib.Core.Logic.{_≢_}
-use mathlib.Core.Bool.{true}
+use mathlib.Core.Bool.{Bool, true, false}
 use mathlib.Core.List.{List, [], _∷_, _++_}
-use Prim.Native.Nat.{ℕ, _+_, _-_, _*_, _/_, _%_, _≤_, _<_}
-use lib.Dec.{eqb}
-use lib.ListN.{length, getD, replicate}
-use Rattle.rules.specs.Bytes.{pick, byteAt, part, over, one, zeros}
-use Rattle.rules.specs.Image.{lastTrack, perTrack}
+use Prim.Native.Nat.{ℕ, zero, suc, _+_, _-_, _*_, _/_, _%_, _≤_, _<_}
+use lib.Dec.{eqb, ltb}
+use lib.ListN.{length, getD}
+use Rattle.rules.specs.Bytes.{pick, within, byteAt, part, over, one, two, zeros}
+use Rattle.rules.specs.Image.{lastTrack, perTrack, index, isSector, firstFree, lastFree}
 use Rattle.rules.specs.Names.{legal}
 use Rattle.rules.specs.Directory.{live, slots, sizeAt, member}
-use Rattle.rules.specs.Outcome.{out}
-use Rattle.rules.specs.Block.{idle, presettable}
+use Rattle.rules.specs.Outcome.{done, answer, settled, out}
+use Rattle.rules.specs.Block.{functionIn, activityIn, positionIn, idle}
+use Rattle.rules.specs.Call.{checked, call}
 use Rattle.rules.specs.Census.{Survey, survey, census, tally}
 use Rattle.laws.specs.Small.{Small}
-use Rattle.laws.specs.Effects.{answerNumbers, presetNumbers, extensionNumbers}
-use Rattle.laws.specs.Surveys.{surveyNumbers}
-use Rattle.demands.specs.Ledger.{Ledger, activity, block, nowhere, slot, fileNamed, vacantSlot}
-use Rattle.demands.specs.Diskette.{ledgerOf, ledgerNumbers, ledgerOwners, fileAt}
-use Rattle.demands.specs.Service.{Service, replied, saysOf, tableOf, ansOf, byteOf, imgOf, tabOf, Call, setting, extending, asking, Machine, answers, gave, next, entry, run, log}
-use Rattle.demands.specs.History.{history, Told, shown, ahead, filesOn, Unnamed, Survives, nameThen, Only, sentBy, Reads}
+use Rattle.laws.specs.Effects.{answerNumbers}
+use Rattle.chains.specs.Chain.{pieces}
+use Rattle.chains.specs.Walk.{chainAt}
+use Rattle.demands.specs.Ledger.{Call, asking, listing, Ledger, file, block, asks, activity, entryOf, imageOf, tableOf, nowhere, slot, fileNamed, vacantSlot}
+use Rattle.demands.specs.Diskette.{ledgerOf, ledgerNumbers, ledgerOwners}
+use Rattle.demands.specs.Service.{Service, flex, ansOf, byteOf, imgOf, tabOf, Machine, answers, gave, next, entry, run, log}
+use Rattle.demands.specs.History.{Scene, then, history, scenes, Told, Only, nameThen, Survives, Unnamed, sentBy, Accepts, Reads, shown, filesOn, ahead}
 
--- ---- the start
+-- ---- DEMAND 1: for any bytes of image and table
+
+-- "13 for table or number": the table is lent rightly and has the block
+pub record Lent (tab : List ℕ) (n : ℕ) : Type 0 where
+  pub table : length tab ≡ 2560
+  pub block : n < 8
+
+-- "Order for every FMS call: .. 16 shape, 1, 16 drive, 18": the first that is due for the block that begins at f; 0 where none is
+abbrev pub due : List ℕ → List ℕ → ℕ → ℕ
+due img tab f = answer (settled (checked img tab f (done 0 [] [])))
+
+-- "Bytes not named here stay": an accepted call of this code and activity names byte i of its block, beside byte 1
+unfoldable pub names : ℕ → ℕ → ℕ → Bool
+names code act i =
+    pick (eqb code 0) (pick (within 30 34 i) true (pick (within 64 319 i) true (pick (eqb act 2) (within 17 22 i) false)))
+    (pick (within 1 2 code) (pick (within 4 27 i) true (pick (within 30 35 i) true (pick (within 47 49 i) true (member i (0 ∷ 2 ∷ 59 ∷ [])))))
+    (pick (eqb code 4) (eqb i 2)
+    (pick (eqb code 5) (member i (0 ∷ 30 ∷ 31 ∷ 34 ∷ []))
+    (pick (eqb code 6) (pick (within 47 49 i) true (eqb i 2))
+    (pick (eqb code 7) (pick (within 47 49 i) true (within 4 27 i))
+    (pick (eqb code 9) (within 64 319 i)
+    (pick (eqb code 12) (within 4 27 i)
+    (within 4 14 i))))))))
+
+-- it stores nothing in the image: reading, open for read, rewind, open directory, next slot, read sector, close but of a file that is written
+unfoldable pub looks : ℕ → ℕ → Bool
+looks code act = pick (eqb code 0) (eqb act 1) (pick (eqb code 4) (pick (eqb act 2) false true) (member code (1 ∷ 5 ∷ 6 ∷ 7 ∷ 9 ∷ [])))
+
+-- byte p of track 0 that no call names: outside the information record's 29-34, in the first four sectors, or in front of a sector's slots
+unfoldable pub quiet : ℕ → ℕ → Bool
+quiet S p = pick (ltb p (256 * S)) (pick (within 541 546 p) false (pick (ltb p 1024) true (ltb (p % 256) 16))) false
+
+-- byte p of a data sector that no call of the block that begins at f names: not of first free, last free or the block's position
+unfoldable pub aside : List ℕ → List ℕ → ℕ → ℕ → Bool
+aside img tab f p =
+    pick (ltb p (256 * perTrack img)) false
+    (pick (member (p / 256) (index (perTrack img) (firstFree img) ∷ index (perTrack img) (lastFree img) ∷ index (perTrack img) (positionIn tab f) ∷ [])) false true)
+
+pub record Demand1 (σ : Service) : Type 0 where
+  -- these four have no past: what 01 says of them is an equation
+  pub preset : (tab : List ℕ) (n i v : ℕ) → σ .preset tab n i v ≡ flex .preset tab n i v
+  pub extension : (tab : List ℕ) (n c : ℕ) → σ .extension tab n c ≡ flex .extension tab n c
+  pub text : (m : List ℕ) (e : ℕ) → σ .text m e ≡ flex .text m e
+  pub census : (img xs ys : List ℕ) → σ .census img xs ys ≡ flex .census img xs ys
+  -- a call of a wrong table or number: nothing at all
+  pub none : (img tab : List ℕ) (n b : ℕ) → (Lent tab n → ⊥) → σ .call img tab n b ≡ out 13 0 img tab
+  -- "Numbers given back": one of the stated numbers, the one that 01 has for this call; 16, 1, 16, 18 / 13 before all else
+  pub stated : (img tab : List ℕ) (n b : ℕ) → member (ansOf (σ .call img tab n b)) answerNumbers ≡ true
+  pub exact : (img tab : List ℕ) (n b : ℕ) → ansOf (σ .call img tab n b) ≡ answer (call img tab n b)
+  pub early : (img tab : List ℕ) (n b : ℕ) → Lent tab n → due img tab (320 * n) ≢ 0 → ansOf (σ .call img tab n b) ≡ due img tab (320 * n)
+  -- a refusal: byte 0, the same image, the same table but for byte 1 of the block
+  pub refused : (img tab : List ℕ) (n b : ℕ) → Lent tab n → ansOf (σ .call img tab n b) ≢ 0
+      → σ .call img tab n b ≡ out (ansOf (σ .call img tab n b)) 0 img (over tab (320 * n + 1) (one (ansOf (σ .call img tab n b))))
+  -- any call: lengths stay; byte 1 is the answer; a byte is given in reading only
+  pub lengths : (img tab : List ℕ) (n b : ℕ) → (length (imgOf (σ .call img tab n b)) ≡ length img) × (length (tabOf (σ .call img tab n b)) ≡ length tab)
+  pub error : (img tab : List ℕ) (n b : ℕ) → Lent tab n → byteAt (tabOf (σ .call img tab n b)) (320 * n + 1) ≡ ansOf (σ .call img tab n b)
+  pub given : (img tab : List ℕ) (n b : ℕ) → (functionIn tab (320 * n) ≡ 0 → activityIn tab (320 * n) ≢ 1) → byteOf (σ .call img tab n b) ≡ 0
+  -- where the table has bytes: the other blocks stay; so do the bytes of its own that the function does not name
+  pub others : (img tab : List ℕ) (n b p : ℕ) → Small tab → (320 * n ≤ p → p < 320 * n + 320 → ⊥) → byteAt (tabOf (σ .call img tab n b)) p ≡ byteAt tab p
+  pub unnamed : (img tab : List ℕ) (n b i : ℕ) → Small tab → i < 320 → i ≢ 1 → names (functionIn tab (320 * n)) (activityIn tab (320 * n)) i ≡ false
+      → byteAt (tabOf (σ .call img tab n b)) (320 * n + i) ≡ byteAt tab (320 * n + i)
+  -- of the image, what only looks changes nothing, and nothing changes what is quiet or aside
+  pub looking : (img tab : List ℕ) (n b : ℕ) → looks (functionIn tab (320 * n)) (activityIn tab (320 * n)) ≡ true → imgOf (σ .call img tab n b) ≡ img
+  pub quietly : (img tab : List ℕ) (n b p : ℕ) → quiet (perTrack img) p ≡ true → byteAt (imgOf (σ .call img tab n b)) p ≡ byteAt img p
+  pub elsewhere : (img tab : List ℕ) (n b p : ℕ) → aside img tab (320 * n) p ≡ true → byteAt (imgOf (σ .call img tab n b)) p ≡ byteAt img p
+
+-- ---- the start, for demands 2 and 3
 
 abbrev pub surveyAnswer : Survey → ℕ
 surveyAnswer (survey a xs ys) = a
 
-abbrev pub surveyFirst : Survey → List ℕ
-surveyFirst (survey a xs ys) = xs
-
-abbrev pub surveySecond : Survey → List ℕ
-surveySecond (survey a xs ys) = ys
-
--- last track and sectors a track, of the start
+-- last track and sectors a track, of the start; how many data sectors there are
 abbrev pub lastOf : Machine → ℕ
 lastOf x = lastTrack (x .img)
 
 abbrev pub perOf : Machine → ℕ
 perOf x = perTrack (x .img)
 
--- how many data sectors there are
 abbrev pub dataSectors : List ℕ → ℕ
 dataSectors img = lastTrack img * perTrack img
 
--- "every start that the census accepts, control blocks all zero, every byte below 256"
+-- "From an image that the census accepts", every byte below 256, and a table whose blocks are closed, whatever else they hold. Control blocks that
+-- are all zero are such blocks
 pub record Start (x : Machine) : Type 0 where
   pub accepted : surveyAnswer (census (x .img) (zeros (dataSectors (x .img))) (zeros (dataSectors (x .img)))) ≡ 0
   pub bytes : Small (x .img)
-  pub blocks : x .tab ≡ zeros 2560
+  pub table : length (x .tab) ≡ 2560
+  pub closed : (n : ℕ) → n < 8 → activityIn (x .tab) (320 * n) ≡ 0
 
--- ---- DEMAND 1: one of the stated numbers; what is refused changes nothing but byte 1 of its block
+-- the history's ledger of the start; what it has after these calls, and each of them with what it had before: folds over the log
+abbrev pub begun : Machine → Ledger
+begun x = ledgerOf (perOf x) (x .img) (x .tab)
 
-pub record Demand1 (σ : Service) : Type 0 where
-  pub call-number : (img tab : List ℕ) (n b : ℕ) → member (ansOf (σ .call img tab n b)) answerNumbers ≡ true
-  pub call-byte : (img tab : List ℕ) (n b : ℕ) → ansOf (σ .call img tab n b) ≢ 0 → byteOf (σ .call img tab n b) ≡ 0
-  pub call-image : (img tab : List ℕ) (n b : ℕ) → ansOf (σ .call img tab n b) ≢ 0 → imgOf (σ .call img tab n b) ≡ img
-  pub call-table : (img tab : List ℕ) (n b : ℕ) → ansOf (σ .call img tab n b) ≢ 0
-      → (length (tabOf (σ .call img tab n b)) ≡ length tab) × ((p : ℕ) → p ≢ 320 * n + 1 → byteAt (tabOf (σ .call img tab n b)) p ≡ byteAt tab p)
-  -- 13 by table or number: nothing at all
-  pub call-none : (img tab : List ℕ) (n b : ℕ) → (length tab ≡ 2560 → n < 8 → ⊥) → σ .call img tab n b ≡ out 13 0 img tab
-  pub preset-number : (tab : List ℕ) (n i v : ℕ) → member (saysOf (σ .preset tab n i v)) presetNumbers ≡ true
-  pub preset-table : (tab : List ℕ) (n i v : ℕ) → saysOf (σ .preset tab n i v) ≢ 0 → tableOf (σ .preset tab n i v) ≡ tab
-  pub extension-number : (tab : List ℕ) (n c : ℕ) → member (saysOf (σ .extension tab n c)) extensionNumbers ≡ true
-  pub extension-table : (tab : List ℕ) (n c : ℕ) → saysOf (σ .extension tab n c) ≢ 0 → tableOf (σ .extension tab n c) ≡ tab
-  -- "40 and 41 change nothing; 42-46 fill both outputs with 65,535"
-  pub census-number : (img xs ys : List ℕ) → member (surveyAnswer (σ .census img xs ys)) surveyNumbers ≡ true
-  pub census-kept : (img xs ys : List ℕ) → 40 ≤ surveyAnswer (σ .census img xs ys) → surveyAnswer (σ .census img xs ys) ≤ 41
-      → (surveyFirst (σ .census img xs ys) ≡ xs) × (surveySecond (σ .census img xs ys) ≡ ys)
-  pub census-filled : (img xs ys : List ℕ) → 42 ≤ surveyAnswer (σ .census img xs ys)
-      → (surveyFirst (σ .census img xs ys) ≡ replicate (dataSectors img) 65535) × (surveySecond (σ .census img xs ys) ≡ replicate (dataSectors img) 65535)
+abbrev pub told : Service → Machine → List Call → Ledger
+told σ x cs = history (lastOf x) (perOf x) (begun x) (log σ x cs)
 
--- ---- DEMAND 2: what is written comes back
+abbrev pub past : Service → Machine → List Call → List Scene
+past σ x cs = scenes (lastOf x) (perOf x) (begun x) (log σ x cs)
 
--- block n asks for this function, on drive 0
-pub record Asks (x : Machine) (n code : ℕ) : Type 0 where
+-- by the history block n asks for this function, on drive 0
+pub record Asks (a : Ledger) (n code : ℕ) : Type 0 where
   pub block : n < 8
-  pub function : byteAt (x .tab) (320 * n + 0) ≡ code
-  pub drive : byteAt (x .tab) (320 * n + 3) ≡ 0
+  pub function : asks a n 0 .code ≡ code
+  pub drive : asks a n 0 .drive ≡ 0
 
--- by the history block n has no file open
+-- by the history block n has no file open; its name
 abbrev pub Idle : Ledger → ℕ → Type 0
 Idle a n = idle (activity (block a n)) ≡ true
 
-abbrev pub nameIn : Machine → ℕ → List ℕ
-nameIn x n = part (x .tab) (320 * n + 4) 11
+abbrev pub nameOf : Ledger → ℕ → List ℕ
+nameOf a n = asks a n 0 .name
+
+-- ---- DEMAND 2: what is written comes back
 
 -- how many zeros follow n bytes up to the end of their last sector
 abbrev pub rest : ℕ → ℕ
 rest n = (252 - n % 252) % 252
 
+-- record numbers, c of them, from i on
+unfoldable pub counted : ℕ → ℕ → List (List ℕ)
+counted i zero = []
+counted i (suc c) = two i ∷ counted (i + 1) c
+
 -- for a service on a diskette of M, S: machine x, and the ledger a that the history has at this point
 module _ (σ : Service) (M S : ℕ) where
-  -- the history's ledger after a call of block n
-  abbrev pub ledgerAfter : Machine → Ledger → ℕ → ℕ → Ledger
-  ledgerAfter x a n b = history M S a (entry σ x (asking n b))
+  -- the history's ledger after a call; what is called from there on, and the ledger then
+  abbrev pub ledgerAfter : Machine → Ledger → Call → Ledger
+  ledgerAfter x a c = then M S a (entry σ x c)
 
-  -- while the history has a free sector every byte of block n is accepted
-  abbrev pub Accepts : ℕ → Machine → Ledger → List Call → Type 0
-  Accepts n x a [] = Unit {0}
-  Accepts n x a (setting m i v ∷ cs) = Accepts n (next σ x (setting m i v)) a cs
-  Accepts n x a (extending m c ∷ cs) = Accepts n (next σ x (extending m c)) a cs
-  Accepts n x a (asking m b ∷ cs) = (m ≡ n → 1 ≤ length (a .free) → answers σ x m b ≡ 0) × Accepts n (next σ x (asking m b)) (ledgerAfter x a m b) cs
+  abbrev pub since : Machine → Ledger → List Call → List Scene
+  since x a cs = scenes M S a (log σ x cs)
 
-  -- block m opens the file under its name of then: accepted; then it reads: the bytes, and 8
-  pub record ReadBack (x : Machine) (bytes : List ℕ) (m b : ℕ) : Type 0 where
-    pub opens : answers σ x m b ≡ 0
-    pub reads : (cs : List Call) → Only m 0 (log σ (next σ x (asking m b)) cs) → Reads m 0 bytes (log σ (next σ x (asking m b)) cs)
+  abbrev pub toldSince : Machine → Ledger → List Call → Ledger
+  toldSince x a cs = history M S a (log σ x cs)
 
-  -- block n closes the file: accepted; and whatever is called then, short of deleting it, it is read back
-  pub record ClosedWith (x : Machine) (a : Ledger) (n : ℕ) (nm sent : List ℕ) (b : ℕ) : Type 0 where
-    pub closes : answers σ x n b ≡ 0
-    pub back : (cs : List Call) → Survives nm (log σ (next σ x (asking n b)) cs)
-        → (m c : ℕ) → Asks (run σ (next σ x (asking n b)) cs) m 1 → Idle (history M S (ledgerAfter x a n b) (log σ (next σ x (asking n b)) cs)) m
-        → nameIn (run σ (next σ x (asking n b)) cs) m ≡ nameThen nm (log σ (next σ x (asking n b)) cs)
-        → ReadBack (run σ (next σ x (asking n b)) cs) (sent ++ zeros (rest (length sent))) m c
+  -- block m opens the file under its name of then: accepted; then, until it closes, it reads: the bytes, and 8; from the start after each rewind
+  pub record ReadBack (x : Machine) (a : Ledger) (bytes : List ℕ) (m b : ℕ) : Type 0 where
+    pub opens : answers σ x (asking m b) ≡ 0
+    pub reads : (cs : List Call) → Only m (0 ∷ 5 ∷ []) (since (next σ x (asking m b)) (ledgerAfter x a (asking m b)) cs)
+        → Reads m 0 bytes (since (next σ x (asking m b)) (ledgerAfter x a (asking m b)) cs)
 
-  -- block n writes into the new file in the slot at o, whatever else is called: its sectors are those of the bytes sent; and close
-  pub record WrittenTo (x : Machine) (a : Ledger) (n o : ℕ) (nm : List ℕ) (cs : List Call) : Type 0 where
-    pub accepts : Accepts n x a cs
-    pub size : sizeAt (run σ x cs .img) o ≡ (length (sentBy n (log σ x cs)) + 251) / 252
-    pub close : (b : ℕ) → byteAt (run σ x cs .tab) (320 * n + 0) ≡ 4 → 1 ≤ length (sentBy n (log σ x cs))
-        → ClosedWith (run σ x cs) (history M S a (log σ x cs)) n nm (sentBy n (log σ x cs)) b
+  -- whatever is called, short of deleting the file, it is read back under its name of then
+  pub record Kept (x : Machine) (a : Ledger) (nm sent : List ℕ) : Type 0 where
+    pub back : (cs : List Call) → Survives nm (since x a cs) → (m b : ℕ) → Asks (toldSince x a cs) m 1 → Idle (toldSince x a cs) m
+        → nameOf (toldSince x a cs) m ≡ nameThen nm (since x a cs)
+        → ReadBack (run σ x cs) (toldSince x a cs) (sent ++ zeros (rest (length sent))) m b
 
-  -- a new file is opened for write: accepted
-  pub record Created (x : Machine) (a : Ledger) (n o b : ℕ) : Type 0 where
-    pub opens : answers σ x n b ≡ 0
-    pub writes : (cs : List Call) → Only n 0 (log σ (next σ x (asking n b)) cs)
-        → WrittenTo (next σ x (asking n b)) (ledgerAfter x a n b) n o (nameIn x n) cs
+  -- block n has written into the new file in slot s, whatever else was called: every byte was accepted where there was room, its sectors are
+  -- those of the bytes sent, their record numbers 1, 2, 3, ..; where it now asks for function 4, the close is accepted
+  pub record WrittenTo (x : Machine) (a : Ledger) (n s : ℕ) (nm : List ℕ) (cs : List Call) : Type 0 where
+    pub accepts : Accepts n (since x a cs)
+    pub size : sizeAt (run σ x cs .img) (file a s .at) ≡ (length (sentBy n (since x a cs)) + 251) / 252
+    pub records : pieces 2 2 (run σ x cs .img) (file (toldSince x a cs) s .secs) ≡ counted 1 ((length (sentBy n (since x a cs)) + 251) / 252)
+    pub closes : (b : ℕ) → Asks (toldSince x a cs) n 4 → answers σ (run σ x cs) (asking n b) ≡ 0
+    pub kept : (b : ℕ) → Asks (toldSince x a cs) n 4 → 1 ≤ length (sentBy n (since x a cs))
+        → Kept (next σ (run σ x cs) (asking n b)) (ledgerAfter (run σ x cs) (toldSince x a cs) (asking n b)) nm (sentBy n (since x a cs))
 
--- what the history has after these calls: a fold over the log, from the ledger of the start's image on
-abbrev pub told : Service → Machine → List Call → Ledger
-told σ x cs = history (lastOf x) (perOf x) (ledgerOf (perOf x) (x .img)) (log σ x cs)
+  -- a new file is opened for write: accepted; then any calls, of block n's own only function 0 accepted
+  pub record Created (x : Machine) (a : Ledger) (n s b : ℕ) : Type 0 where
+    pub opens : answers σ x (asking n b) ≡ 0
+    pub writes : (cs : List Call) → Only n (0 ∷ []) (since (next σ x (asking n b)) (ledgerAfter x a (asking n b)) cs)
+        → WrittenTo (next σ x (asking n b)) (ledgerAfter x a (asking n b)) n s (nameOf a n) cs
 
 pub record Demand2 (σ : Service) : Type 0 where
-  -- whatever was called before, a preset that 01 allows is stored
-  pub presets : (x : Machine) → Start x → (cs : List Call) (n i v : ℕ) → n < 8 → presettable i ≡ true → Idle (told σ x cs) n
-      → σ .preset (run σ x cs .tab) n i v ≡ replied 0 (over (run σ x cs .tab) (320 * n + i) (one v))
-  pub function : (x : Machine) → Start x → (cs : List Call) (n v : ℕ) → n < 8
-      → σ .preset (run σ x cs .tab) n 0 v ≡ replied 0 (over (run σ x cs .tab) (320 * n + 0) (one v))
+  -- whatever was called before, what 01 allows can be preset: so a block can be made to ask for what follows
+  pub presets : (x : Machine) → Start x → (cs : List Call) (n i v : ℕ)
+      → σ .preset (run σ x cs .tab) n i v ≡ flex .preset (tableOf (told σ x cs)) n i v
   -- and a legal name that no file has, where a slot is left, is opened for write
-  pub creates : (x : Machine) → Start x → (cs : List Call) (n s b : ℕ) → Asks (run σ x cs) n 2 → Idle (told σ x cs) n
-      → legal (nameIn (run σ x cs) n) 0 ≡ true → fileNamed (nameIn (run σ x cs) n) (told σ x cs .slots) ≡ nowhere → vacantSlot (told σ x cs .slots) ≡ slot s
-      → Created σ (lastOf x) (perOf x) (run σ x cs) (told σ x cs) n (getD (slots (x .img) (perOf x)) s 0) b
+  pub creates : (x : Machine) → Start x → (cs : List Call) (n s b : ℕ) → Asks (told σ x cs) n 2 → Idle (told σ x cs) n
+      → legal (nameOf (told σ x cs) n) 0 ≡ true → fileNamed (nameOf (told σ x cs) n) (told σ x cs .slots) ≡ nowhere
+      → vacantSlot (told σ x cs .slots) ≡ slot s
+      → Created σ (lastOf x) (perOf x) (run σ x cs) (told σ x cs) n s b
 
 -- ---- DEMAND 3: the diskette stays sound, and is what the history says
 
+-- p lies in one of these slots
+unfoldable pub inSlot : ℕ → List ℕ → Bool
+inSlot p [] = false
+inSlot p (o ∷ os) = pick (within o (o + 23) p) true (inSlot p os)
+
+-- slot s of the start begins here
+abbrev pub placeIn : Machine → ℕ → ℕ
+placeIn x s = getD (slots (x .img) (perOf x)) s 0
+
+-- all 256 bytes of each of these sectors
+abbrev pub wholly : List ℕ → List ℕ → List (List ℕ)
+wholly img ks = pieces 0 256 img ks
+
 pub record Sound (σ : Service) (x : Machine) (cs : List Call) : Type 0 where
-  -- every answer and every byte is the one that the history predicts
-  pub answered : Told (lastOf x) (perOf x) (ledgerOf (perOf x) (x .img)) (log σ x cs)
-  -- the census accepts, and lists what the history has
+  -- every answer and every byte is the one that the history predicts; every byte of image and table is what the history says
+  pub answered : Told (lastOf x) (perOf x) (past σ x cs)
+  pub image : run σ x cs .img ≡ imageOf (perOf x) (told σ x cs)
+  pub table : run σ x cs .tab ≡ tableOf (told σ x cs)
+  -- the census accepts, and lists what the history has; each data sector once
   pub accepted : (xs ys : List ℕ) → length xs ≡ dataSectors (x .img) → length ys ≡ dataSectors (x .img)
       → σ .census (run σ x cs .img) xs ys ≡ survey 0 (ledgerNumbers (perOf x) (told σ x cs)) (ledgerOwners (told σ x cs))
-  -- each data sector once
   pub each-once : (k : ℕ) → k < dataSectors (x .img) → tally k (ledgerNumbers (perOf x) (told σ x cs)) ≡ 1
   pub no-more : length (ledgerNumbers (perOf x) (told σ x cs)) ≡ dataSectors (x .img)
-  -- every file's bytes, an unfinished sector's from its control block, are what the history says
-  pub files : filesOn (perOf x) (run σ x cs .img) (run σ x cs .tab) (slots (run σ x cs .img) (perOf x)) ≡ shown (told σ x cs)
-  -- a block that reads by the history gets the first of the bytes that are still to come, or 8
-  pub readers : (n b : ℕ) → n < 8 → activity (block (told σ x cs) n) ≡ 1 → byteAt (run σ x cs .tab) (320 * n + 0) ≡ 0
-      → (answers σ (run σ x cs) n b ≡ pick (eqb (length (ahead (told σ x cs) (block (told σ x cs) n))) 0) 8 0)
-      × (gave σ (run σ x cs) n b ≡ getD (ahead (told σ x cs) (block (told σ x cs) n)) 0 0)
-  -- the slots stand where they stood, and a file that no call deletes or renames keeps slot, sectors and bytes
+  -- the slots stand where they stood, and each has its 24 bytes by the history
   pub places : slots (run σ x cs .img) (perOf x) ≡ slots (x .img) (perOf x)
-  pub spared : (s : ℕ) → s < length (slots (x .img) (perOf x)) → live (x .img) (getD (slots (x .img) (perOf x)) s 0) ≡ true
-      → Unnamed (part (x .img) (getD (slots (x .img) (perOf x)) s 0) 11) (log σ x cs)
-      → fileAt (perOf x) (run σ x cs .img) (getD (slots (x .img) (perOf x)) s 0) ≡ fileAt (perOf x) (x .img) (getD (slots (x .img) (perOf x)) s 0)
+  pub entries : (s : ℕ) → s < length (slots (x .img) (perOf x)) → part (run σ x cs .img) (placeIn x s) 24 ≡ entryOf (file (told σ x cs) s)
+  -- the files that image and table have, by links, an unfinished sector's bytes from its control block, are those that the history shows
+  pub files : filesOn (perOf x) (run σ x cs .img) (run σ x cs .tab) ≡ shown (told σ x cs)
+  -- a block that reads gets the first of the bytes that are still to come, or 8
+  pub readers : (n b : ℕ) → Asks (told σ x cs) n 0 → activity (block (told σ x cs) n) ≡ 1
+      → (answers σ (run σ x cs) (asking n b) ≡ pick (eqb (length (ahead (told σ x cs) (block (told σ x cs) n))) 0) 8 0)
+      × (gave σ (run σ x cs) (asking n b) ≡ getD (ahead (told σ x cs) (block (told σ x cs) n)) 0 0)
+  -- function 7 gives the slots in order, 9 the sector as it stands
+  pub lists : (n b p : ℕ) → Asks (told σ x cs) n 7 → block (told σ x cs) n ≡ listing p → p < length (told σ x cs .slots)
+      → (answers σ (run σ x cs) (asking n b) ≡ 0)
+      × (part (next σ (run σ x cs) (asking n b) .tab) (320 * n + 4) 24 ≡ entryOf (file (told σ x cs) p))
+  pub fetches : (n b : ℕ) → Asks (told σ x cs) n 9 → Idle (told σ x cs) n → isSector (lastOf x) (perOf x) (asks (told σ x cs) n b .position) ≡ true
+      → (answers σ (run σ x cs) (asking n b) ≡ 0)
+      × (part (next σ (run σ x cs) (asking n b) .tab) (320 * n + 64) 256 ≡ part (run σ x cs .img) (256 * index (perOf x) (asks (told σ x cs) n b .position)) 256)
+  -- every byte of track 0 outside of the slots and of the information record's 29-34 stays; a free sector stays while it is free
+  pub stays : (p : ℕ) → p < 256 * perOf x → within 541 546 p ≡ false → inSlot p (slots (x .img) (perOf x)) ≡ false
+      → byteAt (run σ x cs .img) p ≡ byteAt (x .img) p
+  pub rests : (c : Call) (k : ℕ) → member k (told σ x cs .free) ≡ true → member k (told σ x (cs ++ c ∷ []) .free) ≡ true
+      → part (run σ x (cs ++ c ∷ []) .img) (256 * k + 2) 254 ≡ part (run σ x cs .img) (256 * k + 2) 254
+  -- a file of the start that no accepted call deletes or renames keeps its slot's 24 bytes, its sectors, and all 256 bytes of each of them
+  pub spared : (s : ℕ) → s < length (slots (x .img) (perOf x)) → live (x .img) (placeIn x s) ≡ true
+      → Unnamed (part (x .img) (placeIn x s) 11) (past σ x cs)
+      → (part (run σ x cs .img) (placeIn x s) 24 ≡ part (x .img) (placeIn x s) 24)
+      × (chainAt (perOf x) (run σ x cs .img) (placeIn x s + 13) ≡ chainAt (perOf x) (x .img) (placeIn x s + 13))
+      × (wholly (run σ x cs .img) (chainAt (perOf x) (x .img) (placeIn x s + 13)) ≡ wholly (x .img) (chainAt (perOf x) (x .img) (placeIn x s + 13)))
 
 abbrev pub Demand3 : Service → Type 0
 Demand3 σ = (x : Machine) → Start x → (cs : List Call) → Sound σ x cs

@@ -1,13 +1,13 @@
--- The ledger of an image: how the history reads its start, and what a census of a ledger lists. What a block asks for.
+-- The ledger of a start: how the history reads image and table, once. What a census of a ledger lists.
 use mathlib.Core.List.{List, [], _∷_, _++_}
-use Prim.Native.Nat.{ℕ, _+_, _*_}
-use lib.ListN.{length, getD, replicate}
-use Rattle.rules.specs.Bytes.{pick, wordAt, part}
+use Prim.Native.Nat.{ℕ, zero, suc, _+_, _*_}
+use lib.ListN.{length, replicate}
+use Rattle.rules.specs.Bytes.{pick, part}
 use Rattle.rules.specs.Directory.{live, slots}
 use Rattle.chains.specs.Tally.{flat}
-use Rattle.chains.specs.Chain.{contents}
+use Rattle.chains.specs.Chain.{contents, pieces}
 use Rattle.chains.specs.Walk.{chainAt, numbers}
-use Rattle.demands.specs.Ledger.{File, secsOf, closed, Ledger, Request}
+use Rattle.demands.specs.Ledger.{File, secsOf, closed, Ledger}
 
 -- ---- the files of an image
 
@@ -15,12 +15,22 @@ use Rattle.demands.specs.Ledger.{File, secsOf, closed, Ledger, Request}
 abbrev pub sectorsAt : ℕ → List ℕ → ℕ → List ℕ
 sectorsAt S img o = pick (live img o) (chainAt S img (o + 13)) []
 
+-- of each sector its record number; its bytes 2-255
+abbrev pub records : List ℕ → List ℕ → List (List ℕ)
+records img ks = pieces 2 2 img ks
+
+abbrev pub insides : List ℕ → List ℕ → List (List ℕ)
+insides img ks = pieces 2 254 img ks
+
 unfoldable pub fileAt : ℕ → List ℕ → ℕ → File
 fileAt S img o = record {
+  at = o;
   name = part img o 11;
   mode = part img (o + 11) 2;
+  ends = part img (o + 13) 6;
   date = part img (o + 19) 5;
   secs = sectorsAt S img o;
+  recs = records img (sectorsAt S img o);
   body = contents img (sectorsAt S img o);
 }
 
@@ -28,9 +38,21 @@ unfoldable pub filesAt : ℕ → List ℕ → List ℕ → List File
 filesAt S img [] = []
 filesAt S img (o ∷ os) = fileAt S img o ∷ filesAt S img os
 
--- the ledger of an image, all blocks closed
-unfoldable pub ledgerOf : ℕ → List ℕ → Ledger
-ledgerOf S img = record { free = chainAt S img 541; slots = filesAt S img (slots img S); blocks = replicate 8 closed }
+-- the bytes of c blocks, the first of which begins at f
+unfoldable pub formsFrom : List ℕ → ℕ → ℕ → List (List ℕ)
+formsFrom tab f zero = []
+formsFrom tab f (suc c) = part tab f 320 ∷ formsFrom tab (f + 320) c
+
+-- THE START: the ledger of image and table, all blocks closed
+unfoldable pub ledgerOf : ℕ → List ℕ → List ℕ → Ledger
+ledgerOf S img tab = record {
+  base = img;
+  free = chainAt S img 541;
+  spare = insides img (chainAt S img 541);
+  slots = filesAt S img (slots img S);
+  blocks = replicate 8 closed;
+  forms = formsFrom tab 0 8;
+}
 
 -- ---- what the census lists
 
@@ -44,17 +66,3 @@ ownersFrom owner (f ∷ fs) = replicate (length (f .secs)) owner ++ ownersFrom (
 
 abbrev pub ledgerOwners : Ledger → List ℕ
 ledgerOwners a = replicate (length (a .free)) 0 ++ ownersFrom 1 (a .slots)
-
--- ---- the table
-
--- what block n asks for, as a call with the byte b finds it
-abbrev pub request : List ℕ → ℕ → ℕ → Request
-request tab n b = record {
-  code = getD tab (320 * n + 0) 0;
-  drive = getD tab (320 * n + 3) 0;
-  name = part tab (320 * n + 4) 11;
-  rename = part tab (320 * n + 53) 11;
-  date = part tab (320 * n + 25) 3;
-  position = wordAt tab (320 * n + 30);
-  byte = b;
-}

@@ -1,41 +1,133 @@
--- The history of a list of calls: a fold over the log, which sees neither image nor table. What it shows of files and answers; and, for
--- comparison, the files as they stand in image and table.
+-- The history of a list of calls: a fold over the log, which sees neither image nor table. What it shows of files; and, for comparison, the
+-- files as they stand in image and table.
 use mathlib.Core.Path.{_≡_}
-use mathlib.Core.Bool.{Bool, false}
+use mathlib.Core.Bool.{Bool, true, false}
 use mathlib.Core.List.{List, [], _∷_, _++_}
 use Prim.Native.Nat.{ℕ, zero, suc, _+_, _-_, _*_}
 use lib.ListN.{length, getD, drop}
 use lib.Dec.{eqb, ltb}
-use Rattle.rules.specs.Bytes.{pick, part, same}
-use Rattle.rules.specs.Directory.{live, placeOf}
+use Rattle.rules.specs.Bytes.{pick, part, one, same}
+use Rattle.rules.specs.Stores.{put}
+use Rattle.rules.specs.Directory.{live, placeOf, member, slots}
 use Rattle.rules.specs.Block.{uses}
-use Rattle.chains.specs.Chain.{contents}
-use Rattle.demands.specs.Ledger.{File, Block, closed, listing, reading, writing, Ledger, reply, gives, after, holdsOpen, fate, file}
-use Rattle.demands.specs.Diskette.{sectorsAt}
+use Rattle.demands.specs.Ledger.{Call, setting, extending, asking, blockOf, File, Block, closed, listing, reading, writing, Ledger, file, block, Request, asks, holdsOpen, putInto, fate, reply, gives, after}
+use Rattle.demands.specs.Diskette.{filesAt}
 use Rattle.demands.specs.Service.{Entry}
 
-module _ (M S : ℕ) where
-  -- the ledger after a call that was answered so: an accepted call alone changes it
-  abbrev pub then : Ledger → Entry → Ledger
-  then a e = pick (eqb (e .ans) 0) (after a (fate M S a (e .n) (e .ask))) a
+-- ---- the fold
 
+-- a refused call leaves its number in byte 1 of its block; a refused preset nothing
+abbrev pub noted : Ledger → Call → ℕ → Ledger
+noted a (setting n i v) e = a
+noted a (extending n c) e = a
+noted a (asking n b) e = putInto a n (put 1 (one e) ∷ [])
+
+-- a call of the log, and the ledger that the history had before it
+pub record Scene : Type 0 where
+  pub before : Ledger
+  pub made : Call
+  pub ans : ℕ
+  pub back : ℕ
+
+module _ (M S : ℕ) where
+  -- the ledger after a call that was answered so: an accepted call alone has its fate
+  unfoldable pub then : Ledger → Entry → Ledger
+  then a e = pick (eqb (e .ans) 0) (after a (blockOf (e .made)) (fate M S a (e .made))) (noted a (e .made) (e .ans))
+
+  -- THE HISTORY
   unfoldable pub history : Ledger → List Entry → Ledger
   history a [] = a
   history a (e ∷ es) = history (then a e) es
 
-  -- the answer and the byte that the history predicts
-  abbrev pub answerOf : Ledger → Entry → ℕ
-  answerOf a e = pick (ltb (e .n) 8) (reply (fate M S a (e .n) (e .ask))) 13
-
-  abbrev pub byteOf : Ledger → Entry → ℕ
-  byteOf a e = pick (ltb (e .n) 8) (gives (fate M S a (e .n) (e .ask))) 0
+  unfoldable pub scenes : Ledger → List Entry → List Scene
+  scenes a [] = []
+  scenes a (e ∷ es) = record { before = a; made = e .made; ans = e .ans; back = e .back } ∷ scenes (then a e) es
 
   -- every answer, and every byte, is as predicted
-  abbrev pub Told : Ledger → List Entry → Type 0
-  Told a [] = Unit {0}
-  Told a (e ∷ es) = (e .ans ≡ answerOf a e) × (e .back ≡ byteOf a e) × Told (then a e) es
+  abbrev pub Told : List Scene → Type 0
+  Told [] = Unit {0}
+  Told (c ∷ cs) = (c .ans ≡ reply (fate M S (c .before) (c .made))) × (c .back ≡ gives (fate M S (c .before) (c .made))) × Told cs
 
--- ---- files by name and bytes
+-- ---- what a call of the log asked for, by the history
+
+abbrev pub onCall : {A : Type 0} → Call → A → (ℕ → ℕ → A) → A
+onCall (setting n i v) e f = e
+onCall (extending n c) e f = e
+onCall (asking n b) e f = f n b
+
+-- it was a call of block n for this function
+abbrev pub calls : ℕ → ℕ → Scene → Bool
+calls n code c = onCall (c .made) false (λ m b. pick (eqb m n) (eqb (asks (c .before) m b .code) code) false)
+
+-- every accepted call of block n was for one of these functions
+abbrev pub Only : ℕ → List ℕ → List Scene → Type 0
+Only n codes [] = Unit {0}
+Only n codes (c ∷ cs) =
+    (c .ans ≡ 0 → onCall (c .made) true (λ m b. pick (eqb m n) (member (asks (c .before) m b .code) codes) true) ≡ true) × Only n codes cs
+
+-- it was accepted, and deletes or renames (function 12 or 13) the file of this name
+abbrev pub hits : ℕ → List ℕ → Scene → Bool
+hits code nm c =
+    pick (eqb (c .ans) 0)
+    (onCall (c .made) false (λ m b. pick (eqb (asks (c .before) m b .code) code) (same (asks (c .before) m b .name) nm) false))
+    false
+
+-- the file's name after the call, and after all of them
+abbrev pub nameAfter : List ℕ → Scene → List ℕ
+nameAfter nm c = pick (hits 13 nm c) (onCall (c .made) nm (λ m b. asks (c .before) m b .rename)) nm
+
+unfoldable pub nameThen : List ℕ → List Scene → List ℕ
+nameThen nm [] = nm
+nameThen nm (c ∷ cs) = nameThen (nameAfter nm c) cs
+
+-- it is not deleted; it is neither deleted nor renamed
+abbrev pub Survives : List ℕ → List Scene → Type 0
+Survives nm [] = Unit {0}
+Survives nm (c ∷ cs) = (hits 12 nm c ≡ false) × Survives (nameAfter nm c) cs
+
+abbrev pub Unnamed : List ℕ → List Scene → Type 0
+Unnamed nm [] = Unit {0}
+Unnamed nm (c ∷ cs) = (hits 12 nm c ≡ false) × (hits 13 nm c ≡ false) × Unnamed nm cs
+
+-- ---- the calls of one block
+
+-- the byte that block n sent and that was accepted, if it did; all of them
+abbrev pub sentIn : ℕ → Scene → List ℕ
+sentIn n c = pick (calls n 0 c) (pick (eqb (c .ans) 0) (onCall (c .made) [] (λ m b. b ∷ [])) []) []
+
+unfoldable pub sentBy : ℕ → List Scene → List ℕ
+sentBy n [] = []
+sentBy n (c ∷ cs) = sentIn n c ++ sentBy n cs
+
+-- in the ledger: the bytes that a block still holds of the file that it writes
+abbrev pub unfinished : Block → List ℕ
+unfinished closed = []
+unfinished (listing p) = []
+unfinished (reading s j i) = []
+unfinished (writing s ub) = ub
+
+-- a byte can be stored: a sector is free, or the last one is unfinished
+abbrev pub room : Ledger → ℕ → Bool
+room a n = pick (ltb 0 (length (a .free))) true (ltb 0 (length (unfinished (block a n))))
+
+-- while there is room every byte of block n is accepted
+abbrev pub Accepts : ℕ → List Scene → Type 0
+Accepts n [] = Unit {0}
+Accepts n (c ∷ cs) = (calls n 0 c ≡ true → room (c .before) n ≡ true → c .ans ≡ 0) × Accepts n cs
+
+-- how many of the bytes l block n has had after the call: one more after a read, none after a rewind
+abbrev pub readTo : ℕ → ℕ → List ℕ → Scene → ℕ
+readTo n p l c = pick (calls n 0 c) (pick (ltb p (length l)) (p + 1) p) (pick (calls n 5 c) 0 p)
+
+-- every read of block n gives the next of the bytes l, from p on, and at their end 8; every rewind is accepted
+abbrev pub Reads : ℕ → ℕ → List ℕ → List Scene → Type 0
+Reads n p l [] = Unit {0}
+Reads n p l (c ∷ cs) =
+    (calls n 0 c ≡ true → (c .ans ≡ pick (ltb p (length l)) 0 8) × (c .back ≡ getD l p 0))
+    × (calls n 5 c ≡ true → c .ans ≡ 0)
+    × Reads n (readTo n p l c) l cs
+
+-- ---- files as they are shown: name, attributes, date, and bytes
 
 abbrev pub concat : List (List ℕ) → List ℕ
 concat [] = []
@@ -50,28 +142,26 @@ front (d ∷ e ∷ ds) = d ∷ front (e ∷ ds)
 unfoldable pub content : List (List ℕ) → List ℕ → List ℕ
 content body ub = pick (eqb (length ub) 0) (concat body) (concat (front body) ++ ub)
 
--- a file as it is shown: its name and its bytes
 pub record Shown : Type 0 where
   pub name : List ℕ
+  pub mode : List ℕ
+  pub date : List ℕ
   pub bytes : List ℕ
 
--- in the ledger: the bytes that a block still holds of slot s
-abbrev pub unfinished : Block → List ℕ
-unfinished closed = []
-unfinished (listing p) = []
-unfinished (reading s j i) = []
-unfinished (writing s ub) = ub
+-- a file, of which a block holds the bytes ub
+abbrev pub asShown : File → List ℕ → Shown
+asShown f ub = record { name = f .name; mode = f .mode; date = f .date; bytes = content (f .body) ub }
 
+-- in the ledger: the bytes that a block still holds of slot s
 unfoldable pub pending : List Block → ℕ → ℕ → List ℕ
 pending bs s zero = []
 pending bs s (suc n) = pick (holdsOpen false s (getD bs n closed)) (unfinished (getD bs n closed)) (pending bs s n)
 
 unfoldable pub shownFrom : List Block → ℕ → List File → List Shown
 shownFrom bs s [] = []
-shownFrom bs s (f ∷ fs) =
-    pick (live (f .name) 0) (record { name = f .name; bytes = content (f .body) (pending bs s 8) } ∷ shownFrom bs (s + 1) fs) (shownFrom bs (s + 1) fs)
+shownFrom bs s (f ∷ fs) = pick (live (f .name) 0) (asShown f (pending bs s 8) ∷ shownFrom bs (s + 1) fs) (shownFrom bs (s + 1) fs)
 
--- THE SHOWN HISTORY: the live files in order, by name and bytes
+-- THE SHOWN HISTORY: the live files in order
 abbrev pub shown : Ledger → List Shown
 shown a = shownFrom (a .blocks) 0 (a .slots)
 
@@ -93,52 +183,10 @@ buffered tab o (suc n) =
     (pick (eqb (getD tab (320 * n + 34) 0) 0) [] (part tab (320 * n + 68) (getD tab (320 * n + 34) 0 - 4)))
     (buffered tab o n)
 
-unfoldable pub filesOn : ℕ → List ℕ → List ℕ → List ℕ → List Shown
-filesOn S img tab [] = []
-filesOn S img tab (o ∷ os) =
-    pick (live img o) (record { name = part img o 11; bytes = content (contents img (sectorsAt S img o)) (buffered tab o 8) } ∷ filesOn S img tab os) (filesOn S img tab os)
+-- the live ones of these files of an image
+unfoldable pub standing : List ℕ → List File → List Shown
+standing tab [] = []
+standing tab (f ∷ fs) = pick (live (f .name) 0) (asShown f (buffered tab (f .at) 8) ∷ standing tab fs) (standing tab fs)
 
--- ---- a file's name through the log
-
--- a call that was accepted and deletes, or renames, the file of this name
-unfoldable pub deletes : List ℕ → Entry → Bool
-deletes nm e = pick (eqb (e .ans) 0) (pick (eqb (e .ask .code) 12) (same (e .ask .name) nm) false) false
-
-unfoldable pub renames : List ℕ → Entry → Bool
-renames nm e = pick (eqb (e .ans) 0) (pick (eqb (e .ask .code) 13) (same (e .ask .name) nm) false) false
-
-abbrev pub nameAfter : List ℕ → Entry → List ℕ
-nameAfter nm e = pick (renames nm e) (e .ask .rename) nm
-
--- its name of then
-unfoldable pub nameThen : List ℕ → List Entry → List ℕ
-nameThen nm [] = nm
-nameThen nm (e ∷ es) = nameThen (nameAfter nm e) es
-
--- it is not deleted; it is neither deleted nor renamed
-abbrev pub Survives : List ℕ → List Entry → Type 0
-Survives nm [] = Unit {0}
-Survives nm (e ∷ es) = (deletes nm e ≡ false) × Survives (nameAfter nm e) es
-
-abbrev pub Unnamed : List ℕ → List Entry → Type 0
-Unnamed nm [] = Unit {0}
-Unnamed nm (e ∷ es) = (deletes nm e ≡ false) × (renames nm e ≡ false) × Unnamed nm es
-
--- ---- the calls of one block
-
--- every call of block n asks for this function
-abbrev pub Only : ℕ → ℕ → List Entry → Type 0
-Only n code [] = Unit {0}
-Only n code (e ∷ es) = (e .n ≡ n → e .ask .code ≡ code) × Only n code es
-
--- the bytes that block n sent and that were accepted
-unfoldable pub sentBy : ℕ → List Entry → List ℕ
-sentBy n [] = []
-sentBy n (e ∷ es) = pick (eqb (e .n) n) (pick (eqb (e .ans) 0) (e .ask .byte ∷ sentBy n es) (sentBy n es)) (sentBy n es)
-
--- every call of block n gives the next byte of c, from p on, and at its end 8
-abbrev pub Reads : ℕ → ℕ → List ℕ → List Entry → Type 0
-Reads n p c [] = Unit {0}
-Reads n p c (e ∷ es) =
-    (e .n ≡ n → (e .ans ≡ pick (ltb p (length c)) 0 8) × (e .back ≡ getD c p 0))
-    × Reads n (pick (eqb (e .n) n) (pick (ltb p (length c)) (p + 1) p) p) c es
+abbrev pub filesOn : ℕ → List ℕ → List ℕ → List Shown
+filesOn S img tab = standing tab (filesAt S img (slots img S))

@@ -1,49 +1,121 @@
--- The ledger: what a history of calls knows of a diskette and of the blocks. It never sees image or table: a call is told to it as a request.
+-- The ledger: what a history of calls knows of a diskette and of the eight blocks. It is read off the start once; then calls, as they were
+-- made, change it. It never sees a later image or table: it says what they must be.
 use mathlib.Core.Bool.{Bool, true, false}
 use mathlib.Core.List.{List, [], _∷_, _++_}
-use Prim.Native.Nat.{ℕ, zero, suc, _+_, _-_, _%_}
-use lib.ListN.{length, getD, set}
+use Prim.Native.Nat.{ℕ, zero, suc, _+_, _-_, _*_, _/_, _%_}
+use lib.ListN.{length, getD, set, drop}
 use lib.Dec.{eqb, ltb}
-use Rattle.rules.specs.Bytes.{pick, byteAt, zeros}
-use Rattle.rules.specs.Image.{isSector}
+use Rattle.rules.specs.Bytes.{pick, byteAt, wordAt, part, one, two, six, zeros}
+use Rattle.rules.specs.Stores.{Store, store, stored, Put, put, puts}
+use Rattle.rules.specs.Outcome.{Effect, answer, onBlock as putsOf}
+use Rattle.rules.specs.Image.{index, isSector, infoSector}
 use Rattle.rules.specs.Names.{legal}
-use Rattle.rules.specs.Directory.{named, vacant, onSeen}
-use Rattle.rules.specs.Files.{writeProtected, deleteProtected}
+use Rattle.rules.specs.Directory.{named, vacant, onSeen, placeOf}
+use Rattle.rules.specs.Block.{functionField, activityField, driveField, nameField, dateField, positionField, recordField, indexField, placeField, newNameField, bufferField, presetIn, extensionIn}
+use Rattle.rules.specs.Transfer.{takePuts, sent, shut}
+use Rattle.rules.specs.Files.{opened, writeProtected, deleteProtected}
 use Rattle.rules.specs.Call.{served, fits, misfit}
 use Rattle.rules.specs.declared.Seen.{Seen}
-use Rattle.chains.specs.Chain.{setLast}
+use Rattle.chains.specs.Addresses.{adr}
+use Rattle.chains.specs.Tally.{flat}
+use Rattle.chains.specs.Chain.{first, lastOf, setLast}
 
--- ---- what it knows
+-- ---- calls, as they are made: a preset (block, offset, value), a default extension (block, code), a call (block, byte sent)
 
--- a slot: its eleven bytes of name, attributes (two bytes), sectors, the 252 bytes of each, the five bytes that end in the date
+pub data Call : Type 0 where
+  setting : ℕ → ℕ → ℕ → Call
+  extending : ℕ → ℕ → Call
+  asking : ℕ → ℕ → Call
+
+abbrev pub blockOf : Call → ℕ
+blockOf (setting n i v) = n
+blockOf (extending n c) = n
+blockOf (asking n b) = n
+
+-- ---- what the ledger knows
+
+-- a slot: where it begins in the image; its 24 bytes, which are the name (0-10), the attributes (11-12), start, end and size (13-18), and what
+-- ends in the date (19-23); its file's sectors in order, and of each its record number (bytes 2-3) and its data (bytes 4-255)
 pub record File : Type 0 where
+  pub at : ℕ
   pub name : List ℕ
   pub mode : List ℕ
+  pub ends : List ℕ
   pub date : List ℕ
   pub secs : List ℕ
+  pub recs : List (List ℕ)
   pub body : List (List ℕ)
 
 abbrev pub secsOf : File → List ℕ
 secsOf f = f .secs
 
-abbrev pub noFile : File
-noFile = record { name = []; mode = []; date = []; secs = []; body = [] }
+-- the 24 bytes
+unfoldable pub entryOf : File → List ℕ
+entryOf f = f .name ++ (f .mode ++ (f .ends ++ f .date))
 
--- a block: closed; in the directory, where so many slots were shown; reading slot s, j sectors loaded, at index i; writing slot s, with the
--- bytes that its last sector has not got yet
+abbrev pub noFile : File
+noFile = record { at = 0; name = []; mode = []; ends = []; date = []; secs = []; recs = []; body = [] }
+
+-- what a block does: nothing; it lists the directory, so many slots shown; it reads slot s, j sectors loaded, at index i; it writes slot s, with
+-- the bytes that its last sector has not got yet
 pub data Block : Type 0 where
   closed : Block
   listing : ℕ → Block
   reading : ℕ → ℕ → ℕ → Block
   writing : ℕ → List ℕ → Block
 
--- the free sectors in order, the slots in order, the eight blocks
+-- the start's image, whose bytes stay where nothing below says otherwise; the free sectors in order, and of each its bytes 2-255; the slots in
+-- order; what the eight blocks do, and their 320 bytes: what callers have put there and what accepted calls have left there
 pub record Ledger : Type 0 where
+  pub base : List ℕ
   pub free : List ℕ
+  pub spare : List (List ℕ)
   pub slots : List File
   pub blocks : List Block
+  pub forms : List (List ℕ)
 
--- ---- what it is told of a call: function code, drive, name, new name, date and position as the call found them in its block, and the byte sent
+abbrev pub file : Ledger → ℕ → File
+file a s = getD (a .slots) s noFile
+
+abbrev pub block : Ledger → ℕ → Block
+block a n = getD (a .blocks) n closed
+
+abbrev pub form : Ledger → ℕ → List ℕ
+form a n = getD (a .forms) n []
+
+-- ---- image and table, by the ledger
+
+-- bytes 2-255 of a file's sectors: record number and data
+unfoldable pub joined : List (List ℕ) → List (List ℕ) → List (List ℕ)
+joined [] ds = []
+joined (r ∷ rs) [] = []
+joined (r ∷ rs) (d ∷ ds) = (r ++ d) ∷ joined rs ds
+
+-- each sector of a chain: its link, to the sector behind it, then its bytes 2-255
+unfoldable pub chainStores : ℕ → List ℕ → List (List ℕ) → List Store
+chainStores S [] vs = []
+chainStores S (k ∷ ks) [] = []
+chainStores S (k ∷ ks) (v ∷ vs) = store k 0 (two (adr S (first ks 0)) ++ v) ∷ chainStores S ks vs
+
+-- each slot, and the sectors of its file
+unfoldable pub fileStores : ℕ → List File → List Store
+fileStores S [] = []
+fileStores S (f ∷ fs) =
+    store (f .at / 256) (f .at % 256) (entryOf f) ∷ (chainStores S (f .secs) (joined (f .recs) (f .body)) ++ fileStores S fs)
+
+-- first free, last free and their count
+unfoldable pub freeRecord : ℕ → List ℕ → List ℕ
+freeRecord S ks = six (adr S (first ks 0)) (adr S (lastOf ks 0)) (length ks)
+
+-- THE IMAGE: the start's, with the information record's 29-34, the free sectors, the slots and their files stored into it
+unfoldable pub imageOf : ℕ → Ledger → List ℕ
+imageOf S a = stored (a .base) (store infoSector 29 (freeRecord S (a .free)) ∷ (chainStores S (a .free) (a .spare) ++ fileStores S (a .slots)))
+
+-- THE TABLE: the blocks' bytes
+abbrev pub tableOf : Ledger → List ℕ
+tableOf a = flat (λ b. b) (a .forms)
+
+-- ---- what a call asks for, by the bytes of its block, which begins at f of m: function code, drive, name, new name, date, position; and the byte sent
 pub record Request : Type 0 where
   pub code : ℕ
   pub drive : ℕ
@@ -53,10 +125,25 @@ pub record Request : Type 0 where
   pub position : ℕ
   pub byte : ℕ
 
--- what a call comes to: refused with a number, or accepted with a byte and a new ledger
+abbrev pub request : List ℕ → ℕ → ℕ → Request
+request m f b = record {
+  code = byteAt m (f + functionField);
+  drive = byteAt m (f + driveField);
+  name = part m (f + nameField) 11;
+  rename = part m (f + newNameField) 11;
+  date = part m (f + dateField) 3;
+  position = wordAt m (f + positionField);
+  byte = b;
+}
+
+-- what block n asks for, by the ledger
+abbrev pub asks : Ledger → ℕ → ℕ → Request
+asks a n b = request (form a n) 0 b
+
+-- what a call comes to: refused with a number, or accepted with a byte, a new ledger, and what is put into the block
 pub data Fate : Type 0 where
   denied : ℕ → Fate
-  granted : ℕ → Ledger → Fate
+  granted : ℕ → Ledger → List Put → Fate
 
 -- ---- searches
 
@@ -106,17 +193,25 @@ busy readers s bs (suc n) = pick (holdsOpen readers s (getD bs n closed)) true (
 
 -- ---- changes
 
+-- block n does b from now on
 abbrev pub onBlock : Ledger → ℕ → Block → Ledger
-onBlock a n b = record { free = a .free; slots = a .slots; blocks = set (a .blocks) n b }
+onBlock a n b =
+    record { base = a .base; free = a .free; spare = a .spare; slots = a .slots; blocks = set (a .blocks) n b; forms = a .forms }
 
-abbrev pub onFile : Ledger → List ℕ → ℕ → File → ℕ → Block → Ledger
-onFile a fr s f n b = record { free = fr; slots = set (a .slots) s f; blocks = set (a .blocks) n b }
+-- and slot s becomes f
+abbrev pub onFile : Ledger → ℕ → File → ℕ → Block → Ledger
+onFile a s f n b =
+    record { base = a .base; free = a .free; spare = a .spare; slots = set (a .slots) s f; blocks = set (a .blocks) n b; forms = a .forms }
 
-abbrev pub file : Ledger → ℕ → File
-file a s = getD (a .slots) s noFile
+-- and these sectors are free, with these bytes 2-255
+abbrev pub onFree : Ledger → List ℕ → List (List ℕ) → ℕ → File → ℕ → Block → Ledger
+onFree a ks vs s f n b =
+    record { base = a .base; free = ks; spare = vs; slots = set (a .slots) s f; blocks = set (a .blocks) n b; forms = a .forms }
 
-abbrev pub block : Ledger → ℕ → Block
-block a n = getD (a .blocks) n closed
+-- bytes are put into block n
+abbrev pub putInto : Ledger → ℕ → List Put → Ledger
+putInto a n ps =
+    record { base = a .base; free = a .free; spare = a .spare; slots = a .slots; blocks = a .blocks; forms = set (a .forms) n (puts (form a n) 0 ps) }
 
 -- n bytes, the first from l, zeros after them
 unfoldable pub padTo : ℕ → List ℕ → List ℕ
@@ -126,21 +221,36 @@ padTo (suc n) (x ∷ l) = x ∷ padTo n l
 
 -- its last sector gets the bytes d
 abbrev pub withLast : File → List ℕ → File
-withLast f d = record { name = f .name; mode = f .mode; date = f .date; secs = f .secs; body = setLast (f .body) d }
+withLast f d =
+    record { at = f .at; name = f .name; mode = f .mode; ends = f .ends; date = f .date; secs = f .secs; recs = f .recs; body = setLast (f .body) d }
 
--- it gets one more sector, of zeros
-abbrev pub withNew : File → ℕ → File
-withNew f k = record { name = f .name; mode = f .mode; date = f .date; secs = f .secs ++ k ∷ []; body = f .body ++ zeros 252 ∷ [] }
+-- it gets one more sector, k, whose record number is the size, of zeros
+abbrev pub withNew : ℕ → File → ℕ → File
+withNew S f k =
+    let size = length (f .secs) + 1 in
+    record {
+      at = f .at;
+      name = f .name;
+      mode = f .mode;
+      ends = six (adr S (first (f .secs ++ k ∷ []) 0)) (adr S k) size;
+      date = f .date;
+      secs = f .secs ++ k ∷ [];
+      recs = f .recs ++ two size ∷ [];
+      body = f .body ++ zeros 252 ∷ [];
+    }
 
 -- its slot is marked deleted
 abbrev pub withMark : File → File
-withMark f = record { name = set (f .name) 0 255; mode = f .mode; date = f .date; secs = []; body = [] }
+withMark f =
+    record { at = f .at; name = set (f .name) 0 255; mode = f .mode; ends = f .ends; date = f .date; secs = []; recs = []; body = [] }
 
 abbrev pub withName : File → List ℕ → File
-withName f nm = record { name = nm; mode = f .mode; date = f .date; secs = f .secs; body = f .body }
+withName f nm =
+    record { at = f .at; name = nm; mode = f .mode; ends = f .ends; date = f .date; secs = f .secs; recs = f .recs; body = f .body }
 
-abbrev pub newFile : List ℕ → List ℕ → File
-newFile nm date = record { name = nm; mode = zeros 2; date = zeros 2 ++ date; secs = []; body = [] }
+-- a new file in the slot that begins at o: name and date, all else 0
+abbrev pub newFile : ℕ → List ℕ → List ℕ → File
+newFile o nm date = record { at = o; name = nm; mode = zeros 2; ends = zeros 6; date = zeros 2 ++ date; secs = []; recs = []; body = [] }
 
 -- ---- the functions, one test a line, in 01's order
 
@@ -153,23 +263,37 @@ whenA bad e next = pick bad (denied e) next
 abbrev pub attributes : Ledger → ℕ → ℕ
 attributes a s = byteAt ((file a s) .mode) 0
 
+-- what a load of sector j puts into the block: position, record number, buffer, index
+unfoldable pub loaded : ℕ → File → ℕ → List Put
+loaded S f j =
+    put positionField (two (adr S (getD (f .secs) j 0)))
+    ∷ put recordField (getD (f .recs) j [])
+    ∷ put bufferField (two (adr S (getD (f .secs) (suc j) 0)) ++ (getD (f .recs) j [] ++ getD (f .body) j []))
+    ∷ put indexField (one 5)
+    ∷ []
+
 module _ (M S : ℕ) (a : Ledger) (n : ℕ) (q : Request) where
   -- 0: a sector is taken for the byte, if one is free
   abbrev pub taken : ℕ → List ℕ → Fate
   taken s [] = denied 7
-  taken s (k ∷ fr) = granted 0 (onFile a fr s (withNew (file a s) k) n (writing s (q .byte ∷ [])))
+  taken s (k ∷ fr) =
+      granted 0 (onFree a fr (drop 1 (a .spare)) s (withNew S (file a s) k) n (writing s (q .byte ∷ [])))
+      (takePuts (adr S k) (adr S (first ((file a s) .secs ++ k ∷ []) 0)) (length ((file a s) .secs) + 1) ++ sent 4 (q .byte))
 
   abbrev pub transferred : Block → Fate
   transferred closed = denied 18
   transferred (listing p) = denied 18
   transferred (reading s j i) =
       pick (eqb i 0)
-      (pick (ltb j (length ((file a s) .secs))) (granted (getD (getD ((file a s) .body) j []) 0 0) (onBlock a n (reading s (suc j) 5))) (denied 8))
-      (granted (getD (getD ((file a s) .body) (j - 1) []) (i - 4) 0) (onBlock a n (reading s j ((i + 1) % 256))))
+      (pick (ltb j (length ((file a s) .secs)))
+      (granted (getD (getD ((file a s) .body) j []) 0 0) (onBlock a n (reading s (suc j) 5)) (loaded S (file a s) j))
+      (denied 8))
+      (granted (getD (getD ((file a s) .body) (j - 1) []) (i - 4) 0) (onBlock a n (reading s j ((i + 1) % 256))) (put indexField (one ((i + 1) % 256)) ∷ []))
   transferred (writing s ub) =
       pick (eqb (length ub) 0) (taken s (a .free))
-      (pick (eqb (length ub) 251) (granted 0 (onFile a (a .free) s (withLast (file a s) (padTo 251 ub ++ q .byte ∷ [])) n (writing s [])))
-      (granted 0 (onBlock a n (writing s (ub ++ q .byte ∷ [])))))
+      (pick (eqb (length ub) 251)
+      (granted 0 (onFile a s (withLast (file a s) (padTo 251 ub ++ q .byte ∷ [])) n (writing s [])) (sent 255 (q .byte)))
+      (granted 0 (onBlock a n (writing s (ub ++ q .byte ∷ []))) (sent (4 + length ub) (q .byte))))
 
   -- 1
   unfoldable pub openedToRead : Fate
@@ -177,7 +301,7 @@ module _ (M S : ℕ) (a : Ledger) (n : ℕ) (q : Request) where
       unlessA (legal (q .name) 0) 21
       (onSought (fileNamed (q .name) (a .slots)) (denied 4) (λ s.
       whenA (busy false s (a .blocks) 8) 2
-      (granted 0 (onBlock a n (reading s 0 0)))))
+      (granted 0 (onBlock a n (reading s 0 0)) (opened 1 ((file a s) .at) (entryOf (file a s))))))
 
   -- 2
   unfoldable pub openedToWrite : Fate
@@ -185,32 +309,46 @@ module _ (M S : ℕ) (a : Ledger) (n : ℕ) (q : Request) where
       unlessA (legal (q .name) 0) 21
       (onSought (fileNamed (q .name) (a .slots))
       (onSought (vacantSlot (a .slots)) (denied 6) (λ s.
-      granted 0 (onFile a (a .free) s (newFile (q .name) (q .date)) n (writing s []))))
+      let new = newFile ((file a s) .at) (q .name) (q .date) in
+      granted 0 (onFile a s new n (writing s [])) (opened 2 (new .at) (entryOf new))))
       (λ s. denied 3))
 
   -- 4
   abbrev pub shutBlock : Block → Fate
   shutBlock closed = denied 13
-  shutBlock (listing p) = granted 0 (onBlock a n closed)
-  shutBlock (reading s j i) = granted 0 (onBlock a n closed)
+  shutBlock (listing p) = granted 0 (onBlock a n closed) shut
+  shutBlock (reading s j i) = granted 0 (onBlock a n closed) shut
   shutBlock (writing s ub) =
-      pick (eqb (length ((file a s) .secs)) 0) (granted 0 (onFile a (a .free) s (withMark (file a s)) n closed))
-      (pick (eqb (length ub) 0) (granted 0 (onBlock a n closed))
-      (granted 0 (onFile a (a .free) s (withLast (file a s) (padTo 252 ub)) n closed)))
+      pick (eqb (length ((file a s) .secs)) 0) (granted 0 (onFile a s (withMark (file a s)) n closed) shut)
+      (pick (eqb (length ub) 0) (granted 0 (onBlock a n closed) shut)
+      (granted 0 (onFile a s (withLast (file a s) (padTo 252 ub)) n closed) shut))
 
   -- 5
   abbrev pub rewound : Block → Fate
   rewound closed = denied 18
   rewound (listing p) = denied 18
-  rewound (reading s j i) = granted 0 (onBlock a n (reading s 0 0))
+  rewound (reading s j i) = granted 0 (onBlock a n (reading s 0 0)) (put functionField (one 0) ∷ put positionField (two 0) ∷ put indexField (one 0) ∷ [])
   rewound (writing s ub) = denied 18
+
+  -- 6
+  abbrev pub directoryOpened : Fate
+  directoryOpened = granted 0 (onBlock a n (listing 0)) (put activityField (one 16) ∷ put placeField (zeros 3) ∷ [])
 
   -- 7
   abbrev pub shownNext : Block → Fate
   shownNext closed = denied 18
-  shownNext (listing p) = pick (ltb p (length (a .slots))) (granted 0 (onBlock a n (listing (suc p)))) (denied 8)
+  shownNext (listing p) =
+      pick (ltb p (length (a .slots)))
+      (granted 0 (onBlock a n (listing (suc p))) (put placeField (placeOf ((file a p) .at)) ∷ put nameField (entryOf (file a p)) ∷ []))
+      (denied 8)
   shownNext (reading s j i) = denied 18
   shownNext (writing s ub) = denied 18
+
+  -- 9
+  unfoldable pub fetched : Fate
+  fetched =
+      unlessA (isSector M S (q .position)) 9
+      (granted 0 a (put bufferField (part (imageOf S a) (256 * index S (q .position)) 256) ∷ []))
 
   -- 12
   unfoldable pub deleted : Fate
@@ -220,7 +358,8 @@ module _ (M S : ℕ) (a : Ledger) (n : ℕ) (q : Request) where
       whenA (busy true s (a .blocks) 8) 2
       (whenA (deleteProtected (attributes a s)) 12
       (whenA (writeProtected (attributes a s)) 11
-      (granted 0 (onFile a (a .free ++ (file a s) .secs) s (withMark (file a s)) n (block a n)))))))
+      (granted 0 (onFree a (a .free ++ (file a s) .secs) (a .spare ++ joined ((file a s) .recs) ((file a s) .body)) s (withMark (file a s)) n (block a n))
+      (put nameField (entryOf (withMark (file a s))) ∷ []))))))
 
   -- 13
   unfoldable pub renamed : Fate
@@ -231,39 +370,55 @@ module _ (M S : ℕ) (a : Ledger) (n : ℕ) (q : Request) where
       whenA (busy true s (a .blocks) 8) 2
       (whenA (writeProtected (attributes a s)) 11
       (onSought (fileNamed (q .rename) (a .slots))
-      (granted 0 (onFile a (a .free) s (withName (file a s) (q .rename)) n (block a n)))
+      (granted 0 (onFile a s (withName (file a s) (q .rename)) n (block a n)) (put nameField (q .rename) ∷ []))
       (λ t. denied 3))))))
 
   unfoldable pub performed : Fate
   performed =
+      let sector = fetched in
       pick (eqb (q .code) 0) (transferred (block a n))
       (pick (eqb (q .code) 1) openedToRead
       (pick (eqb (q .code) 2) openedToWrite
       (pick (eqb (q .code) 4) (shutBlock (block a n))
       (pick (eqb (q .code) 5) (rewound (block a n))
-      (pick (eqb (q .code) 6) (granted 0 (onBlock a n (listing 0)))
+      (pick (eqb (q .code) 6) directoryOpened
       (pick (eqb (q .code) 7) (shownNext (block a n))
-      (pick (eqb (q .code) 9) (unlessA (isSector M S (q .position)) 9 (granted 0 a))
+      (pick (eqb (q .code) 9) sector
       (pick (eqb (q .code) 12) deleted
       renamed))))))))
 
-  -- THE FATE of a call of block n
-  unfoldable pub fate : Fate
-  fate =
+  -- a call of block n that asks for q
+  unfoldable pub called : Fate
+  called =
       unlessA (served (q .code)) 1
       (unlessA (eqb (q .drive) 0) 16
       (unlessA (fits (q .code) (activity (block a n))) (misfit (q .code) (activity (block a n)))
       performed))
 
--- its answer, the byte that it gives, the ledger after it
+-- "Success answers 0 and stores 0 in byte 1"
+abbrev pub ended : Fate → Fate
+ended (denied e) = denied e
+ended (granted b a ps) = granted b a (ps ++ put 1 (one 0) ∷ [])
+
+-- a preset or a default extension: by its rule, on the block's own bytes
+abbrev pub edits : Ledger → Effect → Fate
+edits a e = pick (eqb (answer e) 0) (granted 0 a (putsOf e)) (denied (answer e))
+
+-- THE FATE of a call in a ledger
+unfoldable pub fate : ℕ → ℕ → Ledger → Call → Fate
+fate M S a (setting n i v) = unlessA (ltb n 8) 13 (edits a (presetIn (form a n) 0 i v))
+fate M S a (extending n c) = unlessA (ltb n 8) 13 (edits a (extensionIn (form a n) 0 c))
+fate M S a (asking n b) = unlessA (ltb n 8) 13 (ended (called M S a n (asks a n b)))
+
+-- its answer, the byte that it gives, the ledger after it where block n made it
 abbrev pub reply : Fate → ℕ
 reply (denied e) = e
-reply (granted b a) = 0
+reply (granted b a ps) = 0
 
 abbrev pub gives : Fate → ℕ
 gives (denied e) = 0
-gives (granted b a) = b
+gives (granted b a ps) = b
 
-abbrev pub after : Ledger → Fate → Ledger
-after a (denied e) = a
-after a (granted b a′) = a′
+abbrev pub after : Ledger → ℕ → Fate → Ledger
+after a n (denied e) = a
+after a n (granted b a′ ps) = putInto a′ n ps

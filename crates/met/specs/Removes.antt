@@ -27,16 +27,16 @@ use Rattle.chains.specs.Moves.{hung-on}
 use Rattle.chains.specs.Directory.{Listing}
 use Rattle.laws.specs.Stores.{stored-off, stored-at, puts-off}
 use Rattle.chains.specs.Frame.{Frame, framed, Lies, in-record, in-sector, in-slot, of-nothing}
 use Rattle.demands.specs.Ledger.{File, noFile, Block, closed, Ledger, denied, granted, Sought, nowhere, slot, onSought, fileNamed, busy, attributes, onFile, withMark, withName, deleted, renamed}
 use Rattle.demands.specs.Diskette.{request}
-use Rattle.demands.specs.Relation.{t2, opens, Holds, Keeps, Agrees, tp-same, Turn, step, long}
-use Rattle.demands.specs.Quiet.{turned, shut-writes, idle-kept}
-use Rattle.demands.specs.Meets.{Meets, meets-unless, meets-when}
+use Rattle.met.specs.Relation.{t2, opens, Holds, Keeps, Agrees, tp-same, Turn, step, long}
+use Rattle.met.specs.Quiet.{turned, shut-writes, idle-kept}
+use Rattle.met.specs.Meets.{Meets, meets-unless, meets-when}
 use Rattle.chains.specs.Walk.{AllData}
-use Rattle.demands.specs.Sectors.{free-data, secs-data, secs-once, few, fits, sector-small, sector-data, last-data, index-last, last-small, linked-is}
-use Rattle.demands.specs.Searches.{legal-part, find-is, in-use-is, lookedUp, seek-found, named-hit, not-busy, not-open}
-use Rattle.demands.specs.Marks.{slot-low, slot-high, slot-in, slot-off, slot-at, slot-frame, slot-free, mark-holds, mark-step}
-use Rattle.demands.specs.Opens.{legal-live}
+use Rattle.met.specs.Sectors.{free-data, secs-data, secs-once, few, fits, sector-small, sector-data, last-data, index-last, last-small, linked-is}
+use Rattle.met.specs.Searches.{legal-part, find-is, in-use-is, lookedUp, seek-found, named-hit, not-busy, not-open}
+use Rattle.met.specs.Marks.{slot-low, slot-high, slot-in, slot-off, slot-at, slot-frame, slot-free, mark-holds, mark-step}
+use Rattle.met.specs.Opens.{legal-live}
 
 module _ (M S : ℕ) (z : Shape M S) (ds : List ℕ) (d : Listing S ds) (img tab : List ℕ) (a : Ledger) (r : Agrees M S ds img tab a) (s : ℕ) (hs : s < length (slotsOf ds))
     (alive : live ((getD (a .slots) s noFile) .name) 0 ≡ true) where

@@ -10,9 +10,9 @@ use Rattle.rules.specs.Outcome.{Outcome, refuse, done, Effect, settled, answer,
 use Rattle.laws.specs.Addresses.{Shape}
 use Rattle.chains.specs.Directory.{Listing}
 use Rattle.laws.specs.Stores.{puts-append}
 use Rattle.demands.specs.Ledger.{Ledger, Fate, denied, granted, reply, gives, after}
-use Rattle.demands.specs.Relation.{Agrees}
-use Rattle.demands.specs.Quiet.{answered}
+use Rattle.met.specs.Relation.{Agrees}
+use Rattle.met.specs.Quiet.{answered}
 
 module _ (M S : ℕ) (ds img tab : List ℕ) (n : ℕ) where
   -- the same number, or the same byte and a ledger that image and table agree with

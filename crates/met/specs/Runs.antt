@@ -21,17 +21,17 @@ use Rattle.laws.specs.Surveys.{Sane, census-is}
 use Rattle.laws.specs.Addresses.{Shape, Shaped}
 use Rattle.chains.specs.Addresses.{Sized}
 use Rattle.chains.specs.Directory.{Listing}
 use Rattle.demands.specs.Ledger.{Ledger, Fate, denied, granted, reply, gives, after, fate}
-use Rattle.demands.specs.Relation.{Agrees}
-use Rattle.demands.specs.Meets.{Sure}
-use Rattle.demands.specs.Calls.{call-met, preset-still, extension-still}
-use Rattle.demands.specs.Tidy.{Tidy}
-use Rattle.demands.specs.Changes.{Changes, changes, tidy-change, own-live}
+use Rattle.met.specs.Relation.{Agrees}
+use Rattle.met.specs.Meets.{Sure}
+use Rattle.met.specs.Calls.{call-met, preset-still, extension-still}
+use Rattle.met.specs.Tidy.{Tidy}
+use Rattle.met.specs.Changes.{Changes, changes, tidy-change, own-live}
 use Rattle.demands.specs.Diskette.{ledgerOf, request}
-use Rattle.demands.specs.Survey.{start-listing, start-agrees, start-tidy}
+use Rattle.met.specs.Survey.{start-listing, start-agrees, start-tidy}
 use Rattle.demands.specs.Service.{flex, Call, setting, extending, asking, Machine, Entry, answers, gave, next, entry, run, log}
 use Rattle.demands.specs.History.{then, history, answerOf, byteOf, Told}
 use Rattle.demands.specs.Demands.{Start, surveyAnswer, dataSectors}
 use Rattle.rules.specs.Call.{call}
 
 -- presets and extensions store nothing into the image

@@ -21,18 +21,18 @@ use Rattle.laws.specs.Addresses.{Shape}
 use Rattle.chains.specs.Chain.{contents, empty}
 use Rattle.chains.specs.Directory.{Listing, directory-is}
 use Rattle.chains.specs.Walk.{numbers, length-numbers, tally-is, each-sound, once-complete}
 use Rattle.demands.specs.Ledger.{File, noFile, Block, closed, listing, reading, writing, Ledger, Fate, reply, gives, holdsOpen, activity, block, file, fate, secsOf}
-use Rattle.demands.specs.Relation.{writes, Keeps, Agrees, Reading}
-use Rattle.demands.specs.Searches.{live-at, uses-is}
+use Rattle.met.specs.Relation.{writes, Keeps, Agrees, Reading}
+use Rattle.met.specs.Searches.{live-at, uses-is}
 use Rattle.demands.specs.Diskette.{ledgerOf, ledgerNumbers, ledgerOwners, sectorsAt, fileAt, ownersFrom, request}
-use Rattle.demands.specs.Survey.{files-at, listed-is, owners-is, file-is, ledger-free, ledger-slots, sane-back, length-files}
+use Rattle.met.specs.Survey.{files-at, listed-is, owners-is, file-is, ledger-free, ledger-slots, sane-back, length-files}
 use Rattle.demands.specs.Service.{flex, Call, Machine, run, log, answers, gave}
 use Rattle.demands.specs.History.{history, Told, unfinished, pending, shownFrom, shown, buffered, filesOn, concat, had, ahead}
 use Rattle.demands.specs.Demands.{Start, Sound, Demand3}
-use Rattle.demands.specs.Runs.{Fine, always, start-shape, start-list, start-fine, step}
-use Rattle.demands.specs.Sent.{fate-zero, fits-one}
-use Rattle.demands.specs.Got.{Fetched, byte, over, fetched}
-use Rattle.demands.specs.Rests.{Rests, rests-same}
+use Rattle.met.specs.Runs.{Fine, always, start-shape, start-list, start-fine, step}
+use Rattle.met.specs.Sent.{fate-zero, fits-one}
+use Rattle.met.specs.Got.{Fetched, byte, over, fetched}
+use Rattle.met.specs.Rests.{Rests, rests-same}
 use Rattle.chains.specs.Addresses.{absurd-bool}
 
 first-left : (p : ℕ) (c : List ℕ) → getD (drop p c) 0 0 ≡ getD c p 0

@@ -11,12 +11,12 @@ use Rattle.rules.specs.Outcome.{Out, out}
 use Rattle.rules.specs.Census.{Survey, survey}
 use Rattle.rules.specs.All.{rules}
 use Rattle.chains.specs.Walk.{walk}
 use Rattle.demands.specs.Ledger.{seek, openedToWrite, performed, fate}
 use Rattle.demands.specs.Diskette.{ledgerOf, fileAt, filesAt}
 use Rattle.demands.specs.Service.{Service, flex, replied, saysOf, Call, setting, asking, next, entry, run, log}
 use Rattle.demands.specs.History.{history, sentBy, nameThen}
 use Rattle.demands.specs.Demands.{told, Demand2, Demand3, Created, surveyFirst, surveySecond}
-use Rattle.demands.specs.Blank.{blank, blankImage, blankStores, blank-start}
+use Rattle.met.specs.Blank.{blank, blankImage, blankStores, blank-start}
 
 -- ---- the fakes
 

@@ -22,12 +22,12 @@ use Rattle.chains.specs.Addresses.{Sized}
 use Rattle.chains.specs.Chain.{Chain, contents}
 use Rattle.chains.specs.Directory.{Listing, directory-is, directory-sound}
 use Rattle.chains.specs.Walk.{chainAt, length-walk, numbers, numbers-append, numbers-walk, AllData, chain-sound, chain-complete, once-sound, once-complete}
 use Rattle.demands.specs.Diskette.{sectorsAt, fileAt, filesAt, ledgerOf, ledgerNumbers, ownersFrom, ledgerOwners}
 use Rattle.demands.specs.Ledger.{File, noFile, Block, closed, Ledger, secsOf}
-use Rattle.demands.specs.Relation.{tb, writes, Holds, Keeps, Agrees}
-use Rattle.demands.specs.Sectors.{free-data, free-count, secs-data, secs-count}
-use Rattle.demands.specs.Searches.{live-at, part-head}
-use Rattle.demands.specs.Tidy.{nameOf, Tidy, holed-sound, holed-complete, twins-sound, twins-complete}
+use Rattle.met.specs.Relation.{tb, writes, Holds, Keeps, Agrees}
+use Rattle.met.specs.Sectors.{free-data, free-count, secs-data, secs-count}
+use Rattle.met.specs.Searches.{live-at, part-head}
+use Rattle.met.specs.Tidy.{nameOf, Tidy, holed-sound, holed-complete, twins-sound, twins-complete}
 
 unused-part : (m : List ℕ) (o : ℕ) → neverUsed m o ≡ neverUsed (part m o 11) 0
 unfolding neverUsed

@@ -21,8 +21,8 @@ use Rattle.chains.specs.Addresses.{adr, adr-zero, adr-pos, adr-small, index-adr
 use Rattle.chains.specs.Chain.{first, lastOf, tally-last}
 use Rattle.chains.specs.Walk.{AllData}
 use Rattle.chains.specs.Directory.{Listing}
 use Rattle.demands.specs.Ledger.{File, noFile, Ledger, padTo, secsOf}
-use Rattle.demands.specs.Relation.{Agrees, all-le, all-low, all-high, slot-le}
+use Rattle.met.specs.Relation.{Agrees, all-le, all-low, all-high, slot-le}
 
 -- ---- lists of data sectors
 

@@ -25,14 +25,14 @@ use Rattle.laws.specs.Each.{Each}
 use Rattle.chains.specs.Snoc.{length-snoc}
 use Rattle.laws.specs.Stores.{Off, inImage, Piece, begins, bytesOf, none, inBlock, stored-off, stored-at, puts-off, puts-at}
 use Rattle.chains.specs.Frame.{Frame, framed, Lies, in-record, in-sector, in-slot, of-nothing}
 use Rattle.demands.specs.Ledger.{File, noFile, closed, writing, Ledger, Request, denied, granted, onFile, withNew, taken, transferred}
-use Rattle.demands.specs.Relation.{tb, t2, opens, writes, Holds, Writing, Agrees, tp-same, step, long}
-use Rattle.demands.specs.Quiet.{turned, alone1, alone2, nobody}
-use Rattle.demands.specs.Meets.{Meets}
+use Rattle.met.specs.Relation.{tb, t2, opens, writes, Holds, Writing, Agrees, tp-same, step, long}
+use Rattle.met.specs.Quiet.{turned, alone1, alone2, nobody}
+use Rattle.met.specs.Meets.{Meets}
 use Rattle.chains.specs.Walk.{AllData}
-use Rattle.demands.specs.Sectors.{free-data, secs-data, secs-once, few, fits, sector-small, sector-index, sector-data, last-data, last-none, first-none, index-last, last-fit, first-small, last-small, linked-is}
-use Rattle.demands.specs.Marks.{slot-low, slot-high, slot-in}
-use Rattle.demands.specs.Fills.{w, placed-is, buffer-is, write-in, full-step, one-is}
+use Rattle.met.specs.Sectors.{free-data, secs-data, secs-once, few, fits, sector-small, sector-index, sector-data, last-data, last-none, first-none, index-last, last-fit, first-small, last-small, linked-is}
+use Rattle.met.specs.Marks.{slot-low, slot-high, slot-in}
+use Rattle.met.specs.Fills.{w, placed-is, buffer-is, write-in, full-step, one-is}
 
 module _ (M S : ℕ) (z : Shape M S) (ds : List ℕ) (d : Listing S ds) (img tab : List ℕ) (a : Ledger) (r : Agrees M S ds img tab a) (n : ℕ) (hn : n < 8)
     (s : ℕ) (e : getD (a .blocks) n closed ≡ writing s []) (k : ℕ) (fr : List ℕ) (ef : a .free ≡ k ∷ fr) where

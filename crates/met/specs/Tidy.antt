@@ -15,8 +15,8 @@ use Rattle.rules.specs.declared.Seen.{Seen}
 use Rattle.rules.specs.declared.Seen.the-variants.{Hit, Stop, Pass}
 use Rattle.laws.specs.Bytes.{same-refl, same-eq, part-all}
 use Rattle.chains.specs.Addresses.{absurd-bool}
 use Rattle.demands.specs.Ledger.{File, noFile, Sought, nowhere, slot, later, seek, fileNamed, vacantSlot}
-use Rattle.demands.specs.Searches.{Sat, seek-found, named-hit, slot-same}
+use Rattle.met.specs.Searches.{Sat, seek-found, named-hit, slot-same}
 
 -- ---- the image
 

@@ -25,13 +25,13 @@ use Rattle.chains.specs.Chain.{first-getD}
 use Rattle.chains.specs.Directory.{Listing}
 use Rattle.laws.specs.Each.{Each}
 use Rattle.laws.specs.Stores.{Piece, begins, bytesOf, none, inBlock, Off, puts-off, puts-at}
 use Rattle.demands.specs.Ledger.{File, noFile, closed, reading, writing, Ledger, denied, granted, Sought, nowhere, slot, onSought, fileNamed, vacantSlot, busy, onBlock, onFile, newFile, openedToRead, openedToWrite}
 use Rattle.demands.specs.Diskette.{request}
-use Rattle.demands.specs.Relation.{tb, t2, tp, opens, Holds, Reading, Writing, Agrees, Turn, step, step-block}
-use Rattle.demands.specs.Quiet.{turned, writes-opens}
-use Rattle.demands.specs.Meets.{Meets, meets-unless, meets-when}
-use Rattle.demands.specs.Searches.{legal-part, find-is, vacancy-is, in-use-is, lookedUp, seek-found, named-hit, vacant-hit, dead-shut, not-busy, not-written}
-use Rattle.demands.specs.Marks.{slot-at, slot-frame, slot-free}
+use Rattle.met.specs.Relation.{tb, t2, tp, opens, Holds, Reading, Writing, Agrees, Turn, step, step-block}
+use Rattle.met.specs.Quiet.{turned, writes-opens}
+use Rattle.met.specs.Meets.{Meets, meets-unless, meets-when}
+use Rattle.met.specs.Searches.{legal-part, find-is, vacancy-is, in-use-is, lookedUp, seek-found, named-hit, vacant-hit, dead-shut, not-busy, not-written}
+use Rattle.met.specs.Marks.{slot-at, slot-frame, slot-free}
 
 -- ---- a legal name is live
 letter-live : (x : ℕ) → isLetter x ≡ true → pick (eqb x 0) false (pick (leb 128 x) false true) ≡ true

@@ -22,17 +22,17 @@ use Rattle.laws.specs.Addresses.{Shape}
 use Rattle.chains.specs.Addresses.{shape-right, absurd-bool}
 use Rattle.chains.specs.Directory.{Listing}
 use Rattle.laws.specs.Stores.{puts-off}
 use Rattle.demands.specs.Ledger.{noFile, Block, closed, listing, reading, writing, Ledger, Request, Fate, activity, block, transferred, shutBlock, rewound, shownNext, performed, fate}
 use Rattle.demands.specs.Diskette.{request}
-use Rattle.demands.specs.Relation.{tb, opens, Reading, Writing, Keeps, Agrees, tp-same}
-use Rattle.demands.specs.Quiet.{turned, activity-is, quiet, idle-quiet, idle-opens}
-use Rattle.demands.specs.Meets.{Meets, meets-pick, meets-unless, Met, settles}
-use Rattle.demands.specs.Reads.{read-meets, rewind-meets}
-use Rattle.demands.specs.Takes.{write-meets}
-use Rattle.demands.specs.Fills.{close-meets}
-use Rattle.demands.specs.Opens.{open-read-meets, open-write-meets}
-use Rattle.demands.specs.Removes.{delete-meets, rename-meets}
-use Rattle.demands.specs.Lists.{open-directory-meets, next-slot-meets, read-sector-meets}
+use Rattle.met.specs.Relation.{tb, opens, Reading, Writing, Keeps, Agrees, tp-same}
+use Rattle.met.specs.Quiet.{turned, activity-is, quiet, idle-quiet, idle-opens}
+use Rattle.met.specs.Meets.{Meets, meets-pick, meets-unless, Met, settles}
+use Rattle.met.specs.Reads.{read-meets, rewind-meets}
+use Rattle.met.specs.Takes.{write-meets}
+use Rattle.met.specs.Fills.{close-meets}
+use Rattle.met.specs.Opens.{open-read-meets, open-write-meets}
+use Rattle.met.specs.Removes.{delete-meets, rename-meets}
+use Rattle.met.specs.Lists.{open-directory-meets, next-slot-meets, read-sector-meets}
 use Rattle.rules.specs.Files.{nextSlot}
 use Rattle.rules.specs.Files.{rewind}
 

@@ -17,10 +17,10 @@ use Rattle.chains.specs.Chain.{Chain, chain-same}
 use Rattle.chains.specs.Directory.{Listing, Spot, spot}
 use Rattle.laws.specs.Stores.{stored-off, stored-at}
 use Rattle.chains.specs.Frame.{Frame, framed, in-slot}
 use Rattle.demands.specs.Ledger.{File, noFile, Block, closed, Ledger, withMark}
-use Rattle.demands.specs.Relation.{opens, writes, Holds, Keeps, Agrees, Turn, step}
-use Rattle.demands.specs.Sectors.{free-data}
-use Rattle.demands.specs.Searches.{marked-dead}
+use Rattle.met.specs.Relation.{opens, writes, Holds, Keeps, Agrees, Turn, step}
+use Rattle.met.specs.Sectors.{free-data}
+use Rattle.met.specs.Searches.{marked-dead}
 
 module _ (M S : ℕ) (z : Shape M S) (ds : List ℕ) (d : Listing S ds) (img tab : List ℕ) (a : Ledger) (r : Agrees M S ds img tab a) (s : ℕ) (hs : s < length (slotsOf ds)) where
   abbrev f : File

@@ -21,11 +21,11 @@ use Rattle.laws.specs.Addresses.{Shape}
 use Rattle.chains.specs.Chain.{first-getD}
 use Rattle.chains.specs.Directory.{Listing, directory-is, slot-at, length-slots, spot, spot-sector, placed-spot, behind}
 use Rattle.laws.specs.Stores.{puts-off, puts-at}
 use Rattle.demands.specs.Ledger.{Block, closed, listing, Ledger, Request, denied, granted, onBlock, shownNext}
 use Rattle.demands.specs.Diskette.{request}
-use Rattle.demands.specs.Relation.{tb, opens, Listed, Keeps, Agrees, tp-same}
-use Rattle.demands.specs.Quiet.{turned, shut-block, idle-quiet}
-use Rattle.demands.specs.Meets.{Meets, meets-unless}
+use Rattle.met.specs.Relation.{tb, opens, Listed, Keeps, Agrees, tp-same}
+use Rattle.met.specs.Quiet.{turned, shut-block, idle-quiet}
+use Rattle.met.specs.Meets.{Meets, meets-unless}
 
 module _ (M S : ℕ) (z : Shape M S) (ds : List ℕ) (d : Listing S ds) (img tab : List ℕ) (a : Ledger) (r : Agrees M S ds img tab a) (n : ℕ) (hn : n < 8) where
   in-table : (k : ℕ) → k < 320 → 320 * n + k < length tab

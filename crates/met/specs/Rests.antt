@@ -16,17 +16,17 @@ use Rattle.laws.specs.Tests.{both}
 use Rattle.laws.specs.Addresses.{Shape}
 use Rattle.chains.specs.Addresses.{absurd-bool}
 use Rattle.chains.specs.Directory.{Listing}
 use Rattle.demands.specs.Ledger.{File, Ledger, Request, Fate, denied, granted, reply, after, slot, fileNamed, block, file, withName, fate}
 use Rattle.demands.specs.Diskette.{request}
-use Rattle.demands.specs.Relation.{writes}
-use Rattle.demands.specs.Meets.{Sure}
-use Rattle.demands.specs.Searches.{seek-found, named-hit}
-use Rattle.demands.specs.Opens.{legal-live}
-use Rattle.demands.specs.Tidy.{nameOf, Tidy, found-there}
-use Rattle.demands.specs.Changes.{Change, Changes, changes, length-kept, rename-legal, Slot, kept, own, fresh, lost, moved, slot-fate, writes-before, live-not-room}
+use Rattle.met.specs.Relation.{writes}
+use Rattle.met.specs.Meets.{Sure}
+use Rattle.met.specs.Searches.{seek-found, named-hit}
+use Rattle.met.specs.Opens.{legal-live}
+use Rattle.met.specs.Tidy.{nameOf, Tidy, found-there}
+use Rattle.met.specs.Changes.{Change, Changes, changes, length-kept, rename-legal, Slot, kept, own, fresh, lost, moved, slot-fate, writes-before, live-not-room}
 use Rattle.demands.specs.Service.{flex, Call, setting, extending, asking, Machine, Entry, answers, gave, next, entry, log}
 use Rattle.demands.specs.History.{then, history, deletes, renames, nameAfter, nameThen, Survives, Unnamed}
-use Rattle.demands.specs.Runs.{Fine, step, one, set-step, extend-step}
+use Rattle.met.specs.Runs.{Fine, step, one, set-step, extend-step}
 
 -- slot s has the file f, which is live, and no block writes it
 pub record Rests (a : Ledger) (s : ℕ) (f : File) : Type 0 where

@@ -19,21 +19,21 @@ use Rattle.laws.specs.Tests.{both}
 use Rattle.laws.specs.Addresses.{Shape}
 use Rattle.chains.specs.Chain.{length-contents}
 use Rattle.chains.specs.Directory.{Listing}
 use Rattle.demands.specs.Ledger.{File, noFile, Block, closed, listing, reading, writing, Ledger, Request, Fate, denied, granted, reply, after, nowhere, slot, fileNamed, vacantSlot, holdsOpen, busy, activity, block, file, onBlock, onFile, withLast, withName, newFile, padTo, openedToRead, openedToWrite, shutBlock, performed, fate}
-use Rattle.demands.specs.Relation.{opens, writes, Writing, Keeps}
-use Rattle.demands.specs.Quiet.{activity-is, nobody, writes-opens}
-use Rattle.demands.specs.Meets.{Sure}
-use Rattle.demands.specs.Searches.{seek-found}
-use Rattle.demands.specs.Calls.{offset-is}
-use Rattle.demands.specs.Changes.{Changes, changes, rename-legal}
+use Rattle.met.specs.Relation.{opens, writes, Writing, Keeps}
+use Rattle.met.specs.Quiet.{activity-is, nobody, writes-opens}
+use Rattle.met.specs.Meets.{Sure}
+use Rattle.met.specs.Searches.{seek-found}
+use Rattle.met.specs.Calls.{offset-is}
+use Rattle.met.specs.Changes.{Changes, changes, rename-legal}
 use Rattle.demands.specs.Diskette.{ledgerOf, request}
 use Rattle.demands.specs.Service.{flex, replied, Call, setting, extending, asking, Machine, Entry, answers, gave, next, entry, run, log}
 use Rattle.demands.specs.History.{then, history, concat, front, content, renames, nameAfter, nameThen, Survives, sentBy}
 use Rattle.demands.specs.Demands.{Start, lastOf, perOf, told, Asks, Idle, nameIn, rest, ledgerAfter, ReadBack, ClosedWith, WrittenTo, Created, Demand2}
-use Rattle.demands.specs.Runs.{Fine, step, one as one-call, always, set-step, extend-step, start-shape, start-list, start-fine}
-use Rattle.demands.specs.Rests.{Rests, found, rests}
-use Rattle.demands.specs.Sent.{fate-of, concat-last, content-none, content-some, Wrote, written, beyond}
-use Rattle.demands.specs.Got.{at-start, reads}
+use Rattle.met.specs.Runs.{Fine, step, one as one-call, always, set-step, extend-step, start-shape, start-list, start-fine}
+use Rattle.met.specs.Rests.{Rests, found, rests}
+use Rattle.met.specs.Sent.{fate-of, concat-last, content-none, content-some, Wrote, written, beyond}
+use Rattle.met.specs.Got.{at-start, reads}
 
 -- ---- zeros to the end of the sector
 

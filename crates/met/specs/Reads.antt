@@ -23,10 +23,10 @@ use Rattle.chains.specs.Addresses.{adr, adr-zero, adr-pos, adr-small, index-adr
 use Rattle.chains.specs.Chain.{tally-getD, seg-at, contents-at}
 use Rattle.chains.specs.Directory.{Listing}
 use Rattle.laws.specs.Stores.{puts-off, puts-at}
 use Rattle.demands.specs.Ledger.{File, noFile, Block, closed, reading, Ledger, Request, denied, granted, onBlock, transferred, rewound}
-use Rattle.demands.specs.Relation.{tb, t2, opens, writes, Holds, Reading, Keeps, Agrees, t2-same, tp-same, all-low, all-high, slot-le}
-use Rattle.demands.specs.Quiet.{turned, on-block}
-use Rattle.demands.specs.Meets.{Meets, meets-pick}
+use Rattle.met.specs.Relation.{tb, t2, opens, writes, Holds, Reading, Keeps, Agrees, t2-same, tp-same, all-low, all-high, slot-le}
+use Rattle.met.specs.Quiet.{turned, on-block}
+use Rattle.met.specs.Meets.{Meets, meets-pick}
 
 one-head : (v : ℕ) → getD (one v) 0 0 ≡ v
 unfolding one

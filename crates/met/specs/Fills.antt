@@ -24,12 +24,12 @@ use Rattle.chains.specs.Directory.{Listing, spot, placed-spot}
 use Rattle.chains.specs.Snoc.{snoc-other, snoc-last, length-snoc}
 use Rattle.laws.specs.Stores.{stored-off, stored-at, puts-off, puts-at}
 use Rattle.chains.specs.Frame.{Frame, framed, in-sector}
 use Rattle.demands.specs.Ledger.{File, noFile, Block, closed, listing, reading, writing, Ledger, Request, onBlock, onFile, withLast, padTo, shutBlock}
-use Rattle.demands.specs.Relation.{tb, t2, opens, writes, Holds, Reading, Writing, Listed, Keeps, Agrees, t2-same, tp-same, Turn, step}
-use Rattle.demands.specs.Quiet.{turned, on-block, shut-block, alone1, alone2, nobody}
-use Rattle.demands.specs.Meets.{Meets, meets-pick}
-use Rattle.demands.specs.Sectors.{secs-data, secs-once, fits, sector-data, sector-index, last-data, last-none, length-pad, pad-at}
-use Rattle.demands.specs.Marks.{slot-high, mark-step}
+use Rattle.met.specs.Relation.{tb, t2, opens, writes, Holds, Reading, Writing, Listed, Keeps, Agrees, t2-same, tp-same, Turn, step}
+use Rattle.met.specs.Quiet.{turned, on-block, shut-block, alone1, alone2, nobody}
+use Rattle.met.specs.Meets.{Meets, meets-pick}
+use Rattle.met.specs.Sectors.{secs-data, secs-once, fits, sector-data, sector-index, last-data, last-none, length-pad, pad-at}
+use Rattle.met.specs.Marks.{slot-high, mark-step}
 
 pub one-is : (v : ℕ) → one v ≡ v ∷ []
 unfolding one

@@ -20,8 +20,8 @@ use Rattle.laws.specs.Bytes.{part-at, part-same, part-all, length-part, same-eq
 use Rattle.laws.specs.Addresses.{Shape}
 use Rattle.chains.specs.Addresses.{absurd-bool}
 use Rattle.chains.specs.Directory.{Listing, directory-is, places-same}
 use Rattle.demands.specs.Ledger.{File, noFile, Block, closed, listing, reading, writing, Ledger, Sought, nowhere, slot, later, seek, fileNamed, vacantSlot, holdsOpen, busy}
-use Rattle.demands.specs.Relation.{opens, writes, Keeps, Agrees}
+use Rattle.met.specs.Relation.{opens, writes, Keeps, Agrees}
 use Rattle.rules.specs.declared.Found.the-variants.{Stopped}
 use Rattle.rules.specs.declared.Found.the-variants.{Slot}
 

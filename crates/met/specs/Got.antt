@@ -15,14 +15,14 @@ use Rattle.laws.specs.Bytes.{length-part}
 use Rattle.laws.specs.Addresses.{Shape}
 use Rattle.chains.specs.Chain.{contents}
 use Rattle.chains.specs.Directory.{Listing}
 use Rattle.demands.specs.Ledger.{File, Block, closed, reading, Ledger, Request, Fate, denied, granted, reply, gives, after, block, file, onBlock, transferred, fate}
 use Rattle.demands.specs.Diskette.{request}
-use Rattle.demands.specs.Relation.{opens, Reading, Keeps}
-use Rattle.demands.specs.Changes.{Changes, changes}
+use Rattle.met.specs.Relation.{opens, Reading, Keeps}
+use Rattle.met.specs.Changes.{Changes, changes}
 use Rattle.demands.specs.Service.{flex, Call, setting, extending, asking, Machine, Entry, answers, gave, next, entry, log}
 use Rattle.demands.specs.History.{then, concat, had, Only, Reads}
-use Rattle.demands.specs.Runs.{Fine, step, one, set-step, extend-step}
-use Rattle.demands.specs.Sent.{fate-zero, fits-one, open-kept, still, beyond}
+use Rattle.met.specs.Runs.{Fine, step, one, set-step, extend-step}
+use Rattle.met.specs.Sent.{fate-zero, fits-one, open-kept, still, beyond}
 
 -- ---- the bytes of sectors, one after another
 

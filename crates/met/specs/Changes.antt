@@ -19,11 +19,11 @@ use Rattle.rules.specs.Call.{served, fits}
 use Rattle.laws.specs.Tests.{pick-cases, pick-all}
 use Rattle.laws.specs.Tests.{within-is}
 use Rattle.chains.specs.Addresses.{absurd-bool}
 use Rattle.demands.specs.Ledger.{File, noFile, Block, closed, listing, reading, writing, Ledger, Request, Fate, denied, granted, Sought, nowhere, slot, onSought, fileNamed, vacantSlot, busy, activity, block, file, attributes, onBlock, onFile, withMark, withName, newFile, taken, transferred, openedToRead, openedToWrite, shutBlock, rewound, shownNext, deleted, renamed, performed, fate}
-use Rattle.demands.specs.Relation.{opens, writes, Keeps, Agrees}
-use Rattle.demands.specs.Searches.{slot-same, seek-found, named-hit, vacant-hit, marked-dead}
-use Rattle.demands.specs.Opens.{legal-live}
-use Rattle.demands.specs.Tidy.{nameOf, Tidy, live-used, tidy-set, found-none, room-before}
+use Rattle.met.specs.Relation.{opens, writes, Keeps, Agrees}
+use Rattle.met.specs.Searches.{slot-same, seek-found, named-hit, vacant-hit, marked-dead}
+use Rattle.met.specs.Opens.{legal-live}
+use Rattle.met.specs.Tidy.{nameOf, Tidy, live-used, tidy-set, found-none, room-before}
 
 -- ---- the kinds of change
 

@@ -16,16 +16,16 @@ use Rattle.rules.specs.Call.{served, fits}
 use Rattle.laws.specs.Addresses.{Shape}
 use Rattle.chains.specs.Chain.{setLast, length-contents}
 use Rattle.chains.specs.Directory.{Listing}
 use Rattle.demands.specs.Ledger.{File, noFile, Block, closed, writing, Ledger, Request, Fate, denied, granted, reply, after, slot, busy, activity, block, file, onBlock, onFile, withLast, withNew, padTo, taken, transferred, performed, fate}
 use Rattle.demands.specs.Diskette.{request}
-use Rattle.demands.specs.Relation.{opens, writes, Writing, Keeps}
-use Rattle.demands.specs.Searches.{not-busy, not-open}
-use Rattle.demands.specs.Tidy.{nameOf}
-use Rattle.demands.specs.Changes.{Change, Changes, changes, other-block, Slot, kept, own, fresh, lost, moved, slot-fate, live-not-room, open-live}
+use Rattle.met.specs.Relation.{opens, writes, Writing, Keeps}
+use Rattle.met.specs.Searches.{not-busy, not-open}
+use Rattle.met.specs.Tidy.{nameOf}
+use Rattle.met.specs.Changes.{Change, Changes, changes, other-block, Slot, kept, own, fresh, lost, moved, slot-fate, live-not-room, open-live}
 use Rattle.demands.specs.Service.{flex, Call, setting, extending, asking, Machine, Entry, answers, gave, next, entry, log}
 use Rattle.demands.specs.History.{then, history, concat, front, content, Only, sentBy}
 use Rattle.demands.specs.Demands.{Accepts}
-use Rattle.demands.specs.Runs.{Fine, step, one, set-step, extend-step}
+use Rattle.met.specs.Runs.{Fine, step, one, set-step, extend-step}
 
 -- ---- the fate of a request that passes the shared checks
 

@@ -14,8 +14,8 @@ use Rattle.laws.specs.Addresses.{Shape}
 use Rattle.chains.specs.Directory.{Listing}
 use Rattle.laws.specs.Stores.{length-puts, Within, puts-off, puts-other}
 use Rattle.laws.specs.Each.{Each}
 use Rattle.demands.specs.Ledger.{File, Block, closed, listing, reading, writing, Ledger, activity}
-use Rattle.demands.specs.Relation.{tb, tp, opens, writes, Keeps, Agrees, Rest, keeps-same, Turn, step-block}
+use Rattle.met.specs.Relation.{tb, tp, opens, writes, Keeps, Agrees, Rest, keeps-same, Turn, step-block}
 
 -- stores inside of block n leave the others
 pub turned : (tab : List ℕ) (n : ℕ) (ps : List Put) → Each Within ps → Turn tab (puts tab (320 * n) ps) n
