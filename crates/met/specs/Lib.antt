@@ -1,29 +1,7 @@
--- That our service meets the three demands. Image and table agree with a ledger; every call meets its fate
+-- partial
 pub mod Relation
 pub mod Quiet
 pub mod Meets
 pub mod Searches
 pub mod Sectors
 pub mod Marks
-pub mod Reads
-pub mod Fills
-pub mod Takes
-pub mod Opens
-pub mod Removes
-pub mod Lists
-pub mod Calls
--- what calls leave; the census and the ledger; lists of calls
-pub mod Tidy
-pub mod Changes
-pub mod Survey
-pub mod Runs
-pub mod Rests
-pub mod Sent
-pub mod Got
--- the theorems
-pub mod First
-pub mod Second
-pub mod Third
-pub mod Forget
-pub mod Blank
-pub mod Fakes

@@ -13,11 +13,11 @@ use Rattle.laws.specs.Bytes.{part-is, part-at, part-same, length-part}
 use Rattle.chains.specs.Tally.{tally}
 use Rattle.laws.specs.Addresses.{Shape}
 use Rattle.chains.specs.Addresses.{absurd-bool}
-use Rattle.chains.specs.Chain.{Chain, chain-same}
+use Rattle.chains.specs.Chain.{Chain, pieces, pieces-same, chain-same}
 use Rattle.chains.specs.Directory.{Listing, Spot, spot}
 use Rattle.laws.specs.Stores.{stored-off, stored-at}
 use Rattle.chains.specs.Frame.{Frame, framed, in-slot}
-use Rattle.demands.specs.Ledger.{File, noFile, Block, closed, Ledger, withMark}
+use Rattle.demands.specs.Ledger.{File, noFile, Block, closed, Ledger, onFile, withMark}
 use Rattle.met.specs.Relation.{opens, writes, Holds, Keeps, Agrees, Turn, step}
 use Rattle.met.specs.Sectors.{free-data}
 use Rattle.met.specs.Searches.{marked-dead}
@@ -64,16 +64,24 @@ module _ (M S : ℕ) (z : Shape M S) (ds : List ℕ) (d : Listing S ds) (img tab
         chain-same S img (stored img ws) (a .free) 541 (λ j h. slot-off (541 + j) (λ u v. omega (arith, slot-low)))
         (λ j i h c. slot-off (256 * j + i) (λ u v. omega (arith, free-data M S z ds d img tab a r j h .0, slot-high))) (r .free)
 
+    pub slot-spare : a .spare ≡ pieces 2 254 (stored img ws) (a .free)
+    slot-spare =
+        r .spare
+        ∙ sym (pieces-same 2 254 img (stored img ws) (a .free) (λ j i h b c. slot-off (256 * j + i) (λ u v. omega (arith, free-data M S z ds d img tab a r j h .0, slot-high))))
+
   -- ---- a slot whose first byte became 255
   pub mark-holds : (img′ : List ℕ) → getD img′ o 0 ≡ 255 → ((i : ℕ) → 1 ≤ i → i < 24 → getD img′ (o + i) 0 ≡ getD img (o + i) 0)
       → Holds S img′ o (withMark f)
   mark-holds img′ m k =
       record {
+        at = r .holds s hs .at;
         name = part-is img′ o 11 (set (f .name) 0 255) (length-set (f .name) 0 255 ∙ length-name) at;
         mode = part-same img img′ (o + 11) (o + 11) 2 (λ i c. further (11 + i) (omega arith) (omega arith) (omega arith)) ∙ r .holds s hs .mode;
+        ends = part-same img img′ (o + 13) (o + 13) 6 (λ i c. further (13 + i) (omega arith) (omega arith) (omega arith)) ∙ r .holds s hs .ends;
         date = part-same img img′ (o + 19) (o + 19) 5 (λ i c. further (19 + i) (omega arith) (omega arith) (omega arith)) ∙ r .holds s hs .date;
         chain = λ v. absurd-bool v (marked-dead (f .name) (omega (arith, length-name)));
         dead = λ v. refl;
+        recs = refl;
         body = refl;
       }
     where
@@ -90,12 +98,12 @@ module _ (M S : ℕ) (z : Shape M S) (ds : List ℕ) (d : Listing S ds) (img tab
   pub mark-step : (n : ℕ) (tab′ : List ℕ) (b : Block) → n < 8 → f .secs ≡ [] → Turn tab tab′ n → opens b ≡ 0 → writes b ≡ 0
       → Keeps S (slotsOf ds) tab′ n (set (a .slots) s (withMark f)) b
       → ((n′ : ℕ) → n′ < 8 → n′ ≢ n → opens (getD (a .blocks) n′ closed) ≢ suc s)
-      → Agrees M S ds (stored img (store (o / 256) (o % 256) (one 255) ∷ [])) tab′ (record { free = a .free; slots = set (a .slots) s (withMark f); blocks = set (a .blocks) n b })
+      → Agrees M S ds (stored img (store (o / 256) (o % 256) (one 255) ∷ [])) tab′ (onFile a s (withMark f) n b)
   unfolding one
   mark-step n tab′ b hn em t ob wb k q =
-      subst (λ (x : ℕ). Agrees M S ds (stored img (store (o / 256) x (255 ∷ []) ∷ [])) tab′ (record { free = a .free; slots = set (a .slots) s (withMark f); blocks = set (a .blocks) n b })) (omega arith)
-      (step M S z ds d img tab a r (stored img (store (o / 256) (o % 256 + 0) (255 ∷ []) ∷ [])) tab′ [] (a .free) n s (withMark f) b hn hs
-      (slot-frame 0 (255 ∷ []) (omega arith)) t (slot-free 0 (255 ∷ []) (omega arith))
+      subst (λ (x : ℕ). Agrees M S ds (stored img (store (o / 256) x (255 ∷ []) ∷ [])) tab′ (onFile a s (withMark f) n b)) (omega arith)
+      (step M S z ds d img tab a r (stored img (store (o / 256) (o % 256 + 0) (255 ∷ []) ∷ [])) tab′ [] (a .free) (a .spare) n s (withMark f) b hn hs
+      (slot-frame 0 (255 ∷ []) (omega arith)) t (slot-free 0 (255 ∷ []) (omega arith)) (slot-spare 0 (255 ∷ []) (omega arith))
       (mark-holds (stored img (store (o / 256) (o % 256 + 0) (255 ∷ []) ∷ [])) (slot-at 0 (255 ∷ []) (omega arith) 0 o (omega arith) (omega arith))
       (λ i u v. slot-off 0 (255 ∷ []) (omega arith) (o + i) (λ x y. omega arith)))
       k (λ x h. absurd (omega arith)) (λ x. omega (arith, ap (tally x) em)) q (λ n′ h e u. absurd (omega (arith, u, wb))) (λ n′ h e u. absurd (omega (arith, u, ob))))

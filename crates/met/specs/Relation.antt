@@ -15,10 +15,10 @@ use Rattle.chains.specs.Tally.{tally, tally-append, flat, tally-set, tally-one,
 use Rattle.chains.specs.Once.{Once, once-eq, once-le}
 use Rattle.laws.specs.Addresses.{Shape}
 use Rattle.chains.specs.Addresses.{Sized, adr, room-for}
-use Rattle.chains.specs.Chain.{first, lastOf, Seg, Chain, contents, seg-same, contents-same, chain-same}
+use Rattle.chains.specs.Chain.{first, lastOf, Seg, Chain, pieces, contents, seg-same, pieces-same, chain-same}
 use Rattle.chains.specs.Directory.{Listing}
-use Rattle.chains.specs.Frame.{Frame}
-use Rattle.demands.specs.Ledger.{File, noFile, Block, closed, listing, reading, writing, Ledger, secsOf}
+use Rattle.chains.specs.Frame.{Address, Frame}
+use Rattle.demands.specs.Ledger.{File, noFile, Block, closed, listing, reading, writing, Ledger, secsOf, onBlock, onFree}
 
 -- byte i of block n, and the number of two bytes there
 abbrev pub tb : List ℕ → ℕ → ℕ → ℕ
@@ -47,11 +47,14 @@ writes (writing s ub) = suc s
 -- ---- the image: of the slot at o
 
 pub record Holds (S : ℕ) (m : List ℕ) (o : ℕ) (f : File) : Type 0 where
+  pub at : f .at ≡ o
   pub name : part m o 11 ≡ f .name
   pub mode : part m (o + 11) 2 ≡ f .mode
+  pub ends : part m (o + 13) 6 ≡ f .ends
   pub date : part m (o + 19) 5 ≡ f .date
   pub chain : live (f .name) 0 ≡ true → Chain S m (o + 13) (f .secs)
   pub dead : live (f .name) 0 ≡ false → f .secs ≡ []
+  pub recs : f .recs ≡ pieces 2 2 m (f .secs)
   pub body : f .body ≡ contents m (f .secs)
 
 -- ---- the table: of block n, whose slots begin at os. A block is related to the table and to its file, never to the image
@@ -115,6 +118,12 @@ pub record Agrees (M S : ℕ) (ds img tab : List ℕ) (a : Ledger) : Type 0 wher
   pub alone : (n n′ : ℕ) → n ≢ n′ → n < 8 → n′ < 8 → 1 ≤ writes (getD (a .blocks) n closed)
       → writes (getD (a .blocks) n closed) ≢ opens (getD (a .blocks) n′ closed)
   pub once : Once S ((M + 1) * S) (a .free ++ flat secsOf (a .slots))
+  -- bytes of free sectors, of addresses, and those that no slot and no record has
+  pub spare : a .spare ≡ pieces 2 254 img (a .free)
+  pub small : (p : ℕ) → Address S p → getD img p 0 < 256
+  pub len : length img ≡ length (a .base)
+  pub aside : (p : ℕ) → p < 256 * S → (541 ≤ p → p < 547 → ⊥)
+      → ((s : ℕ) → s < length (slotsOf ds) → getD (slotsOf ds) s 0 ≤ p → p < getD (slotsOf ds) s 0 + 24 → ⊥) → getD img p 0 ≡ getD (a .base) p 0
 
 -- ---- frames of the table
 
@@ -181,12 +190,15 @@ pub holds-same : (S : ℕ) (m m′ : List ℕ) (o : ℕ) (f : File) → ((i : �
     → ((j i : ℕ) → 1 ≤ tally j (f .secs) → i < 256 → getD m′ (256 * j + i) 0 ≡ getD m (256 * j + i) 0) → Holds S m o f → Holds S m′ o f
 holds-same S m m′ o f k g h =
     record {
+      at = h .at;
       name = part-same m m′ o o 11 (λ i c. k i (omega arith)) ∙ h .name;
       mode = part-same m m′ (o + 11) (o + 11) 2 (λ i c. at (11 + i) (omega arith) (omega arith)) ∙ h .mode;
+      ends = part-same m m′ (o + 13) (o + 13) 6 (λ i c. at (13 + i) (omega arith) (omega arith)) ∙ h .ends;
       date = part-same m m′ (o + 19) (o + 19) 5 (λ i c. at (19 + i) (omega arith) (omega arith)) ∙ h .date;
       chain = λ v. chain-same S m m′ (f .secs) (o + 13) (λ i c. at (13 + i) (omega arith) (omega arith)) (λ j i t c. g j i t (omega arith)) (h .chain v);
       dead = h .dead;
-      body = h .body ∙ sym (contents-same m m′ (f .secs) (λ j i t u v. g j i t v));
+      recs = h .recs ∙ sym (pieces-same 2 2 m m′ (f .secs) (λ j i t u v. g j i t (omega arith)));
+      body = h .body ∙ sym (pieces-same 4 252 m m′ (f .secs) (λ j i t u v. g j i t v));
     }
   where
     at : (i : ℕ) {p : ℕ} → i < 24 → o + i ≡ p → getD m′ p 0 ≡ getD m p 0
@@ -249,7 +261,7 @@ module _ (M S : ℕ) (z : Shape M S) (ds : List ℕ) (d : Listing S ds) (img tab
   pub step-block : (tab′ : List ℕ) (n : ℕ) (b : Block) → n < 8 → Turn tab tab′ n → Keeps S (slotsOf ds) tab′ n (a .slots) b
       → ((n′ : ℕ) → n′ < 8 → n′ ≢ n → 1 ≤ writes b → writes b ≢ opens (getD (a .blocks) n′ closed))
       → ((n′ : ℕ) → n′ < 8 → n′ ≢ n → 1 ≤ opens b → writes (getD (a .blocks) n′ closed) ≢ opens b)
-      → Agrees M S ds img tab′ (record { free = a .free; slots = a .slots; blocks = set (a .blocks) n b })
+      → Agrees M S ds img tab′ (onBlock a n b)
   step-block tab′ n b h t k p q =
       record {
         shaped = r .shaped;
@@ -262,18 +274,22 @@ module _ (M S : ℕ) (z : Shape M S) (ds : List ℕ) (d : Listing S ds) (img tab
         keeps = blocks-step tab′ n b (a .slots) h t k (λ n′ h′ e o s z. refl);
         alone = alone-step n b h p q;
         once = r .once;
+        spare = r .spare;
+        small = r .small;
+        len = r .len;
+        aside = r .aside;
       }
 
-  pub step : (img′ tab′ ks fr : List ℕ) (n s : ℕ) (f : File) (b : Block) → n < 8 → s < length (slotsOf ds) → Frame S ds img img′ ks s
+  pub step : (img′ tab′ ks fr : List ℕ) (vs : List (List ℕ)) (n s : ℕ) (f : File) (b : Block) → n < 8 → s < length (slotsOf ds) → Frame S ds img img′ ks s
       → Turn tab tab′ n
-      → Chain S img′ 541 fr → Holds S img′ (getD (slotsOf ds) s 0) f → Keeps S (slotsOf ds) tab′ n (set (a .slots) s f) b
+      → Chain S img′ 541 fr → vs ≡ pieces 2 254 img′ fr → Holds S img′ (getD (slotsOf ds) s 0) f → Keeps S (slotsOf ds) tab′ n (set (a .slots) s f) b
       → ((x : ℕ) → 1 ≤ tally x ks → 1 ≤ tally x (a .free) + tally x (secsOf (getD (a .slots) s noFile)))
       → ((x : ℕ) → tally x fr + tally x (secsOf f) ≡ tally x (a .free) + tally x (secsOf (getD (a .slots) s noFile)))
       → ((n′ : ℕ) → n′ < 8 → n′ ≢ n → opens (getD (a .blocks) n′ closed) ≢ suc s)
       → ((n′ : ℕ) → n′ < 8 → n′ ≢ n → 1 ≤ writes b → writes b ≢ opens (getD (a .blocks) n′ closed))
       → ((n′ : ℕ) → n′ < 8 → n′ ≢ n → 1 ≤ opens b → writes (getD (a .blocks) n′ closed) ≢ opens b)
-      → Agrees M S ds img′ tab′ (record { free = fr; slots = set (a .slots) s f; blocks = set (a .blocks) n b })
-  step img′ tab′ ks fr n s f b hn hs g t fc hf kb inks tal other p q =
+      → Agrees M S ds img′ tab′ (onFree a fr vs s f n b)
+  step img′ tab′ ks fr vs n s f b hn hs g t fc sp hf kb inks tal other p q =
       record {
         shaped = record { last = g .shape 550 (omega arith) (omega arith) ∙ r .shaped .last; per = g .shape 551 (omega arith) (omega arith) ∙ r .shaped .per; size = g .len ∙ r .shaped .size };
         tlen = t .len ∙ r .tlen;
@@ -294,6 +310,10 @@ module _ (M S : ℕ) (z : Shape M S) (ds : List ℕ) (d : Listing S ds) (img tab
               tal x,
             ))
             (r .once);
+        spare = sp;
+        small = λ x w. g .small x w (r .small x w);
+        len = g .len ∙ r .len;
+        aside = λ x low rec off. g .aside x low rec (off s hs) ∙ r .aside x low rec off;
       }
     where
       clear : (s′ : ℕ) → s′ < length (slotsOf ds) → s′ ≢ s → (x : ℕ) → 1 ≤ tally x (secsOf (getD (a .slots) s′ noFile)) → tally x ks ≡ 0
