@@ -5,3 +5,16 @@ pub mod Meets
 pub mod Searches
 pub mod Sectors
 pub mod Marks
+pub mod Fills
+pub mod Takes
+pub mod Picture
+pub mod Opens
+pub mod Reads
+pub mod Removes
+pub mod Lists
+pub mod Calls
+pub mod Tidy
+pub mod Changes
+pub mod Survey
+pub mod Forms
+pub mod Runs

@@ -1,0 +1,280 @@
+-- The image by the ledger: the 24 bytes of each slot, the 256 bytes of each sector of a file, and the whole image. The image that a ledger
+-- says is laid out of pieces; each of them has the image's bytes, and what none of them covers is as in the start's image.
+use mathlib.Core.Path.{_≡_, refl, sym, ap, ap₂, _∙_, subst}
+use mathlib.Core.Bool.{Bool, true, false}
+use mathlib.Core.List.{List, [], _∷_, _++_}
+use Prim.Native.Nat.{ℕ, zero, suc, _+_, _-_, _*_, _/_, _%_, _≤_, _<_}
+use native.Mathlib.Omega.{arith}
+use native.Mathlib.Decide.{decLt}
+use lib.ListN.{length, getD, length-append}
+use lib.Seq.{ext-getD}
+use Rattle.rules.specs.Bytes.{wordAt, part, over, two, six}
+use Rattle.rules.specs.Stores.{Store, store, stored}
+use Rattle.rules.specs.Directory.{live, slotsOf}
+use Rattle.laws.specs.Bytes.{part-at, length-part, length-two, length-over, over-in, over-other}
+use Rattle.laws.specs.Each.{Each, each-append}
+use Rattle.laws.specs.Stores.{Piece, piece, begins, bytesOf, laid, Off, inImage, stored-laid, in-image-append, length-stored}
+use Rattle.laws.specs.Addresses.{Shape}
+use Rattle.chains.specs.Tally.{tally, tally-head, tally-append, flat, eq1-ne}
+use Rattle.chains.specs.Addresses.{adr}
+use Rattle.chains.specs.Chain.{first, lastOf, Seg, pieces, contents, pieces-at, seg-at, tally-getD}
+use Rattle.chains.specs.Walk.{AllData}
+use Rattle.chains.specs.Directory.{Listing}
+use Rattle.chains.specs.Frame.{Address, of-record, of-link}
+use Rattle.demands.specs.Ledger.{File, noFile, Ledger, secsOf, entryOf, joined, chainStores, fileStores, freeRecord, imageOf}
+use Rattle.met.specs.Relation.{Agrees}
+use Rattle.met.specs.Sectors.{free-data, secs-data}
+
+-- ---- parts
+
+-- a part of n bytes and the k bytes behind it are one part
+pub part-join : (m : List ℕ) (n k p q : ℕ) → p + n ≡ q → part m p n ++ part m q k ≡ part m p (n + k)
+unfolding part
+part-join m zero k p q e =
+    let u : q ≡ p = omega arith in
+    let v : k ≡ 0 + k = omega arith in
+    ap₂ (λ (x y : ℕ). part m x y) u v
+part-join m (suc n) k p q e =
+    let u : suc (n + k) ≡ suc n + k = omega arith in
+    ap (λ (l : List ℕ). getD m p 0 ∷ l) (part-join m n k (p + 1) q (omega arith)) ∙ ap (part m p) u
+
+-- two bytes that are the number v
+pub part-two : (m : List ℕ) (p v : ℕ) → wordAt m p ≡ v → getD m p 0 < 256 → getD m (p + 1) 0 < 256 → part m p 2 ≡ two v
+unfolding part two wordAt
+part-two m p v e a b = ap₂ (λ (x y : ℕ). x ∷ y ∷ []) (omega arith) (omega arith)
+
+pub six-is : (x y z : ℕ) → six x y z ≡ two x ++ (two y ++ two z)
+unfolding six two
+six-is x y z = refl
+
+-- bytes 2-255 of each sector, out of record number and data
+pub joined-pieces : (m ks : List ℕ) → joined (pieces 2 2 m ks) (contents m ks) ≡ pieces 2 254 m ks
+unfolding joined
+joined-pieces m [] = refl
+joined-pieces m (k ∷ ks) =
+    ap₂ (λ (x : List ℕ) (y : List (List ℕ)). x ∷ y) (part-join m 2 252 (256 * k + 2) (256 * k + 4) (omega arith)) (joined-pieces m ks)
+
+-- ---- pieces laid over a list
+
+-- the piece has the bytes of m where it lies
+abbrev True : List ℕ → Piece → Type 0
+True m p = (i : ℕ) → i < length (bytesOf p) → getD m (begins p + i) 0 ≡ getD (bytesOf p) i 0
+
+part-true : (m : List ℕ) (at n : ℕ) (vs : List ℕ) → part m at n ≡ vs → True m (piece at vs)
+part-true m at n vs e i h =
+    sym (part-at m at n i (omega (arith, length-part m at n, ap length e))) ∙ ap (λ (l : List ℕ). getD l i 0) e
+
+-- a byte of a list over which pieces of m are laid is m's, if it was where no piece covers it
+laid-true : (m : List ℕ) (ps : List Piece) (b : List ℕ) (at : ℕ) → at < length b → Each (True m) ps → (Each (Off at) ps → getD b at 0 ≡ getD m at 0)
+    → getD (laid b ps) at 0 ≡ getD m at 0
+laid-true m [] b at h t k = k tt
+laid-true m (piece p vs ∷ ps) b at h t k = laid-true m ps (over b p vs) at (omega (arith, length-over b p vs)) (t .1) (go (decLt at p) (decLt at (p + length vs)))
+  where
+    go : Dec (at < p) → Dec (at < p + length vs) → Each (Off at) ps → getD (over b p vs) at 0 ≡ getD m at 0
+    go (yes u) v o = over-other b p vs at (λ x y. omega arith) ∙ k ((λ x y. omega arith), o)
+    go (no u) (no v) o = over-other b p vs at (λ x y. omega arith) ∙ k ((λ x y. omega arith), o)
+    go (no u) (yes v) o =
+        let i = at - p in
+        let e : p + i ≡ at = omega arith in
+        subst (λ (x : ℕ). getD (over b p vs) x 0 ≡ getD m x 0) e (over-in b p vs i (omega arith) (omega arith) ∙ sym (t .0 i (omega arith)))
+
+each-left : {A : Type 0} (P : A → Type 0) (xs ys : List A) → Each P (xs ++ ys) → Each P xs
+each-left P [] ys h = tt
+each-left P (x ∷ xs) ys h = (h .0, each-left P xs ys (h .1))
+
+each-right : {A : Type 0} (P : A → Type 0) (xs ys : List A) → Each P (xs ++ ys) → Each P ys
+each-right P [] ys h = h
+each-right P (x ∷ xs) ys h = each-right P xs ys (h .1)
+
+-- the same of stores
+abbrev Stores : (Piece → Type 0) → List Store → Type 0
+Stores P ss = Each P (inImage ss)
+
+stores-append : (P : Piece → Type 0) (ss ts : List Store) → Stores P ss → Stores P ts → Stores P (ss ++ ts)
+stores-append P ss ts h k = rw (in-image-append ss ts) (each-append P (inImage ss) (inImage ts) h k)
+
+stores-left : (P : Piece → Type 0) (ss ts : List Store) → Stores P (ss ++ ts) → Stores P ss
+stores-left P ss ts h = each-left P (inImage ss) (inImage ts) (subst (Each P) (in-image-append ss ts) h)
+
+stores-right : (P : Piece → Type 0) (ss ts : List Store) → Stores P (ss ++ ts) → Stores P ts
+stores-right P ss ts h = each-right P (inImage ss) (inImage ts) (subst (Each P) (in-image-append ss ts) h)
+
+-- ---- the sectors that chains have: where no store covers a place, none of them is its sector
+
+off-chain : (S at : ℕ) (m ks : List ℕ) → Stores (Off at) (chainStores S ks (pieces 2 254 m ks)) → tally (at / 256) ks ≡ 0
+unfolding chainStores
+off-chain S at m [] o = refl
+off-chain S at m (k ∷ ks) o =
+    let l : length (two (adr S (first ks 0)) ++ part m (256 * k + 2) 254) ≡ 256 =
+    length-append (two (adr S (first ks 0))) (part m (256 * k + 2) 254) ∙ omega (arith, length-two (adr S (first ks 0)), length-part m (256 * k + 2) 254) in
+    omega (arith, off-chain S at m ks (o .1), eq1-ne (at / 256) k (λ e. o .0 (omega arith) (omega arith)))
+
+-- ---- a slot, and a sector of its file
+
+module _ (S : ℕ) (img : List ℕ) (small : (p : ℕ) → Address S p → getD img p 0 < 256) where
+  -- a link of a data sector
+  pub link-is : (k x : ℕ) → S ≤ k → wordAt img (256 * k) ≡ adr S x → part img (256 * k) 2 ≡ two (adr S x)
+  link-is k x h e =
+      part-two img (256 * k) (adr S x) e (small (256 * k) (of-link k 0 h (omega arith) (omega arith))) (small (256 * k + 1) (of-link k 1 h (omega arith) refl))
+
+module _ (M S : ℕ) (z : Shape M S) (ds : List ℕ) (d : Listing S ds) (img tab : List ℕ) (a : Ledger) (r : Agrees M S ds img tab a) where
+  -- the 24 bytes of slot s
+  pub entry-is : (s : ℕ) → s < length (slotsOf ds) → part img (getD (slotsOf ds) s 0) 24 ≡ entryOf (getD (a .slots) s noFile)
+  unfolding entryOf
+  entry-is s h =
+      let t = r .holds s h in
+      let o = getD (slotsOf ds) s 0 in
+      rw (← t .name, ← t .mode, ← t .ends, ← t .date)
+      (sym (
+      ap (λ (l : List ℕ). part img o 11 ++ (part img (o + 11) 2 ++ l)) (part-join img 6 5 (o + 13) (o + 19) (omega arith))
+      ∙ ap (λ (l : List ℕ). part img o 11 ++ l) (part-join img 2 11 (o + 11) (o + 13) (omega arith))
+      ∙ part-join img 11 13 o (o + 11) refl
+      ))
+
+  -- the 256 bytes of sector j of its file: link, record number, data
+  pub sector-is : (s : ℕ) → s < length (slotsOf ds) → live (getD (a .slots) s noFile .name) 0 ≡ true → (j : ℕ) → j < length (getD (a .slots) s noFile .secs)
+      → part img (256 * getD (getD (a .slots) s noFile .secs) j 0) 256
+      ≡ two (adr S (getD (getD (a .slots) s noFile .secs) (suc j) 0)) ++ (getD (getD (a .slots) s noFile .recs) j [] ++ getD (getD (a .slots) s noFile .body) j [])
+  sector-is s h v j b =
+      let t = r .holds s h in
+      let l = getD (a .slots) s noFile .secs in
+      let k = getD l j 0 in
+      let low = secs-data M S z ds d img tab a r s h k (tally-getD l j b) .0 in
+      let w = link-is S img (r .small) k (getD l (suc j) 0) low (seg-at S img l j b (t .chain v .seg)) in
+      rw (t .recs, t .body, pieces-at 2 2 img l j b, pieces-at 4 252 img l j b, ← w)
+      (sym (
+      ap (λ (y : List ℕ). part img (256 * k) 2 ++ y) (part-join img 2 252 (256 * k + 2) (256 * k + 4) (omega arith))
+      ∙ part-join img 2 254 (256 * k) (256 * k + 2) refl
+      ))
+
+  -- ---- the pieces of the whole image
+
+  -- a slot's 24 bytes, and bytes 2-255 of each sector
+  record Kept (f : File) : Type 0 where
+    pub entry : part img (f .at) 24 ≡ entryOf f
+    pub rest : joined (f .recs) (f .body) ≡ pieces 2 254 img (f .secs)
+    pub chain : Stores (True img) (chainStores S (f .secs) (joined (f .recs) (f .body)))
+
+  chain-true : (ks : List ℕ) → AllData M S ks → Seg S img ks 0 → Stores (True img) (chainStores S ks (pieces 2 254 img ks))
+  unfolding chainStores
+  chain-true [] g s = tt
+  chain-true (k ∷ ks) g s =
+      let w = link-is S img (r .small) k (first ks 0) (g k (tally-head k ks) .0) (s .0) in
+      let e : part img (256 * k + 0) 256 ≡ two (adr S (first ks 0)) ++ part img (256 * k + 2) 254 =
+      ap (λ (x : ℕ). part img x 256) (omega arith) ∙ sym (part-join img 2 254 (256 * k) (256 * k + 2) refl) ∙ ap (λ (y : List ℕ). y ++ part img (256 * k + 2) 254) w in
+      (part-true img (256 * k + 0) 256 _ e, chain-true ks (λ x t. g x (omega arith)) (s .1))
+
+  kept : (s : ℕ) → s < length (slotsOf ds) → Kept (getD (a .slots) s noFile)
+  kept s h =
+      record {
+        entry = ap (λ (o : ℕ). part img o 24) (r .holds s h .at) ∙ entry-is s h;
+        rest = e;
+        chain = subst (λ (vs : List (List ℕ)). Stores (True img) (chainStores S (f .secs) vs)) (sym e) (go (live (f .name) 0) refl);
+      }
+    where
+      f : File
+      f = getD (a .slots) s noFile
+
+      e : joined (f .recs) (f .body) ≡ pieces 2 254 img (f .secs)
+      e = ap₂ joined (r .holds s h .recs) (r .holds s h .body) ∙ joined-pieces img (f .secs)
+
+      go : (b : Bool) → live (f .name) 0 ≡ b → Stores (True img) (chainStores S (f .secs) (pieces 2 254 img (f .secs)))
+      go true v = chain-true (f .secs) (secs-data M S z ds d img tab a r s h) (r .holds s h .chain v .seg)
+      go false v = subst (λ (l : List ℕ). Stores (True img) (chainStores S l (pieces 2 254 img l))) (sym (r .holds s h .dead v)) (chain-true [] (λ x t. absurd (omega arith)) tt)
+
+  files-true : (fs : List File) → ((s : ℕ) → s < length fs → Kept (getD fs s noFile)) → Stores (True img) (fileStores S fs)
+  unfolding fileStores
+  files-true [] k = tt
+  files-true (f ∷ fs) k =
+      let w = k 0 (omega arith) in
+      let e : part img (256 * (f .at / 256) + f .at % 256) 24 ≡ entryOf f = ap (λ (o : ℕ). part img o 24) (omega arith) ∙ w .entry in (
+        part-true img (256 * (f .at / 256) + f .at % 256) 24 (entryOf f) e,
+        stores-append (True img) (chainStores S (f .secs) (joined (f .recs) (f .body))) (fileStores S fs) (w .chain) (files-true fs (λ s h. k (suc s) (omega arith))),
+      )
+
+  -- a place that no store covers is in no slot, and its sector in no file
+  off-slots : (at : ℕ) (fs : List File) → ((s : ℕ) → s < length fs → Kept (getD fs s noFile)) → Stores (Off at) (fileStores S fs)
+      → (s : ℕ) → s < length fs → getD fs s noFile .at ≤ at → at < getD fs s noFile .at + 24 → ⊥
+  unfolding fileStores
+  off-slots at [] k o s h u v = omega arith
+  off-slots at (f ∷ fs) k o zero h u v =
+      o .0 (omega arith) (omega (arith, ap length (k 0 (omega arith) .entry), length-part img (f .at) 24))
+  off-slots at (f ∷ fs) k o (suc s) h u v =
+      off-slots at fs (λ s h. k (suc s) (omega arith)) (stores-right (Off at) (chainStores S (f .secs) (joined (f .recs) (f .body))) (fileStores S fs) (o .1)) s (omega arith) u v
+
+  off-files : (at : ℕ) (fs : List File) → ((s : ℕ) → s < length fs → Kept (getD fs s noFile)) → Stores (Off at) (fileStores S fs)
+      → tally (at / 256) (flat secsOf fs) ≡ 0
+  unfolding fileStores
+  off-files at [] k o = refl
+  off-files at (f ∷ fs) k o =
+      let c = stores-left (Off at) (chainStores S (f .secs) (joined (f .recs) (f .body))) (fileStores S fs) (o .1) in
+      let t = off-chain S at img (f .secs) (subst (λ (vs : List (List ℕ)). Stores (Off at) (chainStores S (f .secs) vs)) (k 0 (omega arith) .rest) c) in
+      let u = off-files at fs (λ s h. k (suc s) (omega arith)) (stores-right (Off at) (chainStores S (f .secs) (joined (f .recs) (f .body))) (fileStores S fs) (o .1)) in
+      omega (arith, tally-append (at / 256) (f .secs) (flat secsOf fs), t, u)
+
+  all-kept : (s : ℕ) → s < length (a .slots) → Kept (getD (a .slots) s noFile)
+  all-kept s h = kept s (omega (arith, r .ns))
+
+  -- the information record's 29-34
+  pub record-is : part img 541 6 ≡ freeRecord S (a .free)
+  unfolding freeRecord
+  record-is =
+      let small : (p : ℕ) → 541 ≤ p → p < 547 → getD img p 0 < 256 = λ p u v. r .small p (of-record u v) in
+      rw (six-is (adr S (first (a .free) 0)) (adr S (lastOf (a .free) 0)) (length (a .free)))
+      (sym (
+      ap₂ (λ (x y : List ℕ). x ++ y) (sym (part-two img 541 _ (r .free .start) (small 541 (omega arith) (omega arith)) (small 542 (omega arith) (omega arith))))
+      (ap₂ (λ (x y : List ℕ). x ++ y) (sym (part-two img 543 _ (r .free .end) (small 543 (omega arith) (omega arith)) (small 544 (omega arith) (omega arith))))
+      (sym (part-two img 545 _ (r .free .size) (small 545 (omega arith) (omega arith)) (small 546 (omega arith) (omega arith)))))
+      ∙ ap (λ (l : List ℕ). part img 541 2 ++ l) (part-join img 2 2 543 545 refl)
+      ∙ part-join img 2 4 541 543 refl
+      ))
+
+  abbrev stores : List Store
+  stores = chainStores S (a .free) (a .spare) ++ fileStores S (a .slots)
+
+  all-true : Stores (True img) (store 2 29 (freeRecord S (a .free)) ∷ stores)
+  all-true = (
+    part-true img 541 6 (freeRecord S (a .free)) record-is,
+    stores-append (True img) (chainStores S (a .free) (a .spare)) (fileStores S (a .slots))
+        (subst (λ (vs : List (List ℕ)). Stores (True img) (chainStores S (a .free) vs)) (sym (r .spare))
+        (chain-true (a .free) (free-data M S z ds d img tab a r) (r .free .seg)))
+        (files-true (a .slots) all-kept),
+  )
+
+  -- what no store covers is as in the start's image
+  all-off : (at : ℕ) → at < length img → Stores (Off at) (store 2 29 (freeRecord S (a .free)) ∷ stores) → getD (a .base) at 0 ≡ getD img at 0
+  all-off at h o = go (decLt at (256 * S))
+    where
+      fr : tally (at / 256) (a .free) ≡ 0
+      fr =
+          off-chain S at img (a .free)
+          (subst (λ (vs : List (List ℕ)). Stores (Off at) (chainStores S (a .free) vs)) (r .spare)
+          (stores-left (Off at) (chainStores S (a .free) (a .spare)) (fileStores S (a .slots)) (o .1)))
+
+      fo : Stores (Off at) (fileStores S (a .slots))
+      fo = stores-right (Off at) (chainStores S (a .free) (a .spare)) (fileStores S (a .slots)) (o .1)
+
+      go : Dec (at < 256 * S) → getD (a .base) at 0 ≡ getD img at 0
+      go (yes u) =
+          sym (r .aside at u
+          (λ x y. o .0 x (omega (arith, y, ap length record-is, length-part img 541 6)))
+          (λ s hs x y. off-slots at (a .slots) all-kept fo s (omega (arith, r .ns)) (omega (arith, x, r .holds s hs .at)) (omega (arith, y, r .holds s hs .at))))
+      go (no u) =
+          absurd (omega (
+            arith,
+            r .once .inside (at / 256) (omega arith) (omega (arith, r .shaped .size)),
+            tally-append (at / 256) (a .free) (flat secsOf (a .slots)),
+            fr,
+            off-files at (a .slots) all-kept fo,
+          ))
+
+  -- THE IMAGE is the one that the ledger says
+  pub image-is : img ≡ imageOf S a
+  unfolding imageOf
+  image-is =
+      ext-getD 0 img (stored (a .base) (store 2 29 (freeRecord S (a .free)) ∷ stores))
+      (r .len ∙ sym (length-stored (store 2 29 (freeRecord S (a .free)) ∷ stores) (a .base)))
+      (λ i h. sym (
+      ap (λ (l : List ℕ). getD l i 0) (stored-laid (store 2 29 (freeRecord S (a .free)) ∷ stores) (a .base))
+      ∙ laid-true img (inImage (store 2 29 (freeRecord S (a .free)) ∷ stores)) (a .base) i (omega (arith, r .len)) all-true (all-off i h)
+      ))

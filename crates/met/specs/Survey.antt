@@ -1,0 +1,312 @@
+-- The ledger of an image: what the census accepts is a ledger that image and table agree with, and the other way round.
+use mathlib.Core.Path.{_≡_, refl, sym, ap, ap₂, _∙_, subst}
+use mathlib.Core.Logic.{_≢_}
+use mathlib.Core.Bool.{Bool, true, false}
+use mathlib.Core.List.{List, [], _∷_, _++_}
+use Prim.Native.Nat.{ℕ, zero, suc, _+_, _*_, _≤_, _<_}
+use native.Mathlib.Omega.{arith}
+use lib.ListN.{length, getD, replicate, getD-replicate}
+use lib.Seq.{ext-getD}
+use lib.Dec.{eqb}
+use Rattle.rules.specs.Bytes.{pick, wordAt, part}
+use Rattle.rules.specs.Image.{firstFree, freeCount}
+use Rattle.rules.specs.Directory.{live, neverUsed, directory, slots, slotsOf, startAt, endAt, sizeAt}
+use Rattle.rules.specs.Census.{chainRight, numbersFrom, freeRight, fileRight, filesRight, fileNumbers, fileOwners, filesNumbers, filesOwners, listed, owners, eachOnce}
+use Rattle.laws.specs.Bytes.{length-part}
+use Rattle.laws.specs.Small.{Small}
+use Rattle.laws.specs.Surveys.{Sane}
+use Rattle.chains.specs.Tally.{tally, tally-append, flat}
+use Rattle.laws.specs.Tests.{both}
+use Rattle.laws.specs.Addresses.{Shape}
+use Rattle.chains.specs.Addresses.{Sized}
+use Rattle.chains.specs.Chain.{Chain, pieces, contents}
+use Rattle.chains.specs.Directory.{Listing, directory-is, directory-sound}
+use Rattle.chains.specs.Walk.{chainAt, length-walk, numbers, numbers-append, numbers-walk, AllData, chain-sound, chain-complete, once-sound, once-complete}
+use Rattle.demands.specs.Diskette.{sectorsAt, fileAt, filesAt, ledgerOf, ledgerNumbers, ownersFrom, ledgerOwners}
+use Rattle.demands.specs.Ledger.{File, noFile, Block, closed, Ledger, secsOf}
+use Rattle.met.specs.Relation.{tb, writes, Holds, Keeps, Agrees}
+use Rattle.met.specs.Sectors.{free-data, free-count, secs-data, secs-count}
+use Rattle.met.specs.Searches.{live-at, part-head}
+use Rattle.met.specs.Tidy.{nameOf, Tidy, holed-sound, holed-complete, twins-sound, twins-complete}
+
+unused-part : (m : List ℕ) (o : ℕ) → neverUsed m o ≡ neverUsed (part m o 11) 0
+unfolding neverUsed
+unused-part m o = ap (λ (x : ℕ). eqb x 0) (part-head m o 10)
+
+-- ---- the files of an image
+
+pub length-files : (S : ℕ) (img os : List ℕ) → length (filesAt S img os) ≡ length os
+unfolding filesAt
+length-files S img [] = refl
+length-files S img (o ∷ os) = ap suc (length-files S img os)
+
+pub files-at : (S : ℕ) (img os : List ℕ) (i : ℕ) → i < length os → getD (filesAt S img os) i noFile ≡ fileAt S img (getD os i 0)
+unfolding filesAt
+files-at S img [] i h = absurd (omega arith)
+files-at S img (o ∷ os) zero h = refl
+files-at S img (o ∷ os) (suc i) h = files-at S img os i (omega arith)
+
+-- ---- what the census lists
+
+file-numbers : (S : ℕ) (img : List ℕ) (o : ℕ) → fileNumbers img S o ≡ numbers S (sectorsAt S img o)
+unfolding fileNumbers
+file-numbers S img o = go (live img o)
+  where
+    go : (u : Bool) → pick u (numbersFrom img S (wordAt img (o + 17)) (wordAt img (o + 13))) [] ≡ numbers S (pick u (chainAt S img (o + 13)) [])
+    go false = refl
+    go true =
+        ap (λ (x : ℕ). numbersFrom img S (wordAt img x) (wordAt img (o + 13))) (omega arith) ∙ numbers-walk S img (wordAt img (o + 13 + 4)) (wordAt img (o + 13))
+
+files-numbers : (S : ℕ) (img os : List ℕ) → filesNumbers img S os ≡ numbers S (flat secsOf (filesAt S img os))
+unfolding filesNumbers filesAt fileAt
+files-numbers S img [] = refl
+files-numbers S img (o ∷ os) =
+    ap₂ (λ (x y : List ℕ). x ++ y) (file-numbers S img o) (files-numbers S img os) ∙ sym (numbers-append S (sectorsAt S img o) (flat secsOf (filesAt S img os)))
+
+pub listed-is : (S : ℕ) (img tab : List ℕ) → listed img S ≡ ledgerNumbers S (ledgerOf S img tab)
+unfolding listed ledgerOf
+listed-is S img tab =
+    ap₂ (λ (x y : List ℕ). x ++ y) (numbers-walk S img (freeCount img) (firstFree img)) (files-numbers S img (slots img S))
+    ∙ sym (numbers-append S (chainAt S img 541) (flat secsOf (filesAt S img (slots img S))))
+
+file-owners : (S : ℕ) (img : List ℕ) (o owner : ℕ) → fileOwners img o owner ≡ replicate (length (sectorsAt S img o)) owner
+unfolding fileOwners
+file-owners S img o owner = go (live img o)
+  where
+    go : (u : Bool) → pick u (replicate (wordAt img (o + 17)) owner) [] ≡ replicate (length (pick u (chainAt S img (o + 13)) [])) owner
+    go false = refl
+    go true =
+        ap (λ (x : ℕ). replicate {A = ℕ} x owner)
+        (ap (wordAt img) (omega arith) ∙ sym (length-walk S img (wordAt img (o + 13 + 4)) (wordAt img (o + 13))))
+
+files-owners : (S : ℕ) (img os : List ℕ) (owner : ℕ) → filesOwners img owner os ≡ ownersFrom owner (filesAt S img os)
+unfolding filesOwners filesAt fileAt
+files-owners S img [] owner = refl
+files-owners S img (o ∷ os) owner = ap₂ (λ (x y : List ℕ). x ++ y) (file-owners S img o owner) (files-owners S img os (owner + 1))
+
+pub owners-is : (S : ℕ) (img tab : List ℕ) → owners img S ≡ ledgerOwners (ledgerOf S img tab)
+unfolding owners ledgerOf
+owners-is S img tab =
+    ap₂ (λ (x y : List ℕ). x ++ y) (ap (λ (x : ℕ). replicate {A = ℕ} x 0) (sym (length-walk S img (wordAt img 545) (wordAt img 541)))) (files-owners S img (slots img S) 1)
+
+-- ---- SOUND: an image that the census accepts, every block closed
+
+files-right : (M S : ℕ) (img os : List ℕ) → filesRight img M S os ≡ true → (i : ℕ) → i < length os → live img (getD os i 0) ≡ true
+    → chainRight img M S (startAt img (getD os i 0)) (endAt img (getD os i 0)) (sizeAt img (getD os i 0)) ≡ true
+unfolding filesRight fileRight
+files-right M S img [] h i b v = absurd (omega arith)
+files-right M S img (o ∷ os) h zero b v =
+    let p : pick (live img o) (chainRight img M S (startAt img o) (endAt img o) (sizeAt img o)) true ≡ true =
+    both (fileRight img M S o) (filesRight img M S os) h .0 in
+    rw v at p
+files-right M S img (o ∷ os) h (suc i) b v = files-right M S img os (both (fileRight img M S o) (filesRight img M S os) h .1) i (omega arith) v
+
+right-files : (M S : ℕ) (img os : List ℕ) → ((i : ℕ) → i < length os → live img (getD os i 0) ≡ true
+    → chainRight img M S (startAt img (getD os i 0)) (endAt img (getD os i 0)) (sizeAt img (getD os i 0)) ≡ true) → filesRight img M S os ≡ true
+unfolding filesRight fileRight
+right-files M S img [] h = refl
+right-files M S img (o ∷ os) h = rw (go (live img o) refl) (right-files M S img os (λ i b. h (suc i) (omega arith)))
+  where
+    go : (u : Bool) → live img o ≡ u → pick u (chainRight img M S (startAt img o) (endAt img o) (sizeAt img o)) true ≡ true
+    go false e = refl
+    go true e = h 0 (omega arith) e
+
+-- the chain of a slot, as the census and as the relation name its record
+record-at : (M S : ℕ) (img : List ℕ) (o : ℕ)
+    → chainRight img M S (startAt img o) (endAt img o) (sizeAt img o) ≡ chainRight img M S (wordAt img (o + 13)) (wordAt img (o + 13 + 2)) (wordAt img (o + 13 + 4))
+record-at M S img o = ap₂ (λ (x y : ℕ). chainRight img M S (wordAt img (o + 13)) (wordAt img x) (wordAt img y)) (omega arith) (omega arith)
+
+flat-data : (M S : ℕ) (fs : List File) → ((i : ℕ) → i < length fs → AllData M S (secsOf (getD fs i noFile))) → AllData M S (flat secsOf fs)
+flat-data M S [] g x t = absurd (omega arith)
+flat-data M S (f ∷ fs) g x t = go (tally x (f .secs)) refl (flat-data M S fs (λ i b. g (suc i) (omega arith)) x)
+  where
+    go : (c : ℕ) → tally x (f .secs) ≡ c → (1 ≤ tally x (flat secsOf fs) → (S ≤ x) × (x < (M + 1) * S)) → (S ≤ x) × (x < (M + 1) * S)
+    go zero e ih = ih (omega (arith, t, e, tally-append x (f .secs) (flat secsOf fs)))
+    go (suc c) e ih = g 0 (omega arith) x (omega (arith, e))
+
+module _ (M S : ℕ) (z : Shape M S) (img : List ℕ) (h : Sized M S img) (small : Small img) (sane : Sane img M S) where
+  abbrev ds : List ℕ
+  ds = directory img S
+
+  dir : Listing S ds
+  dir = directory-sound M S z img (small .at) (sane .right) .0
+
+  pub start-listing : Listing S (directory img S)
+  start-listing = dir
+
+  file-sound : (i : ℕ) → i < length (slotsOf ds) → live img (getD (slotsOf ds) i 0) ≡ true
+      → Chain S img (getD (slotsOf ds) i 0 + 13) (chainAt S img (getD (slotsOf ds) i 0 + 13)) × AllData M S (chainAt S img (getD (slotsOf ds) i 0 + 13))
+  file-sound i b v =
+      chain-sound M S z img small (getD (slotsOf ds) i 0 + 13)
+      (sym (record-at M S img (getD (slotsOf ds) i 0)) ∙ files-right M S img (slotsOf ds) (sane .files) i b v)
+
+  free-sound : Chain S img 541 (chainAt S img 541) × AllData M S (chainAt S img 541)
+  unfolding freeRight
+  free-sound = chain-sound M S z img small 541 (free-right (sane .free))
+    where
+      free-right : freeRight img M S ≡ true → chainRight img M S (wordAt img 541) (wordAt img (541 + 2)) (wordAt img (541 + 4)) ≡ true
+      free-right q = q
+
+  secs-all : (i : ℕ) → i < length (slotsOf ds) → AllData M S (sectorsAt S img (getD (slotsOf ds) i 0))
+  secs-all i b = go (live img (getD (slotsOf ds) i 0)) refl
+    where
+      go : (u : Bool) → live img (getD (slotsOf ds) i 0) ≡ u → AllData M S (pick u (chainAt S img (getD (slotsOf ds) i 0 + 13)) [])
+      go false e x t = absurd (omega arith)
+      go true e x t = file-sound i b e .1 x t
+
+  all-data : AllData M S (chainAt S img 541 ++ flat secsOf (filesAt S img (slotsOf ds)))
+  unfolding fileAt
+  all-data x t = go (tally x (chainAt S img 541)) refl
+    where
+      each : (i : ℕ) → i < length (filesAt S img (slotsOf ds)) → AllData M S (secsOf (getD (filesAt S img (slotsOf ds)) i noFile))
+      each i b =
+          let c : i < length (slotsOf ds) = omega (arith, length-files S img (slotsOf ds)) in
+          subst (λ (f : File). AllData M S (secsOf f)) (sym (files-at S img (slotsOf ds) i c)) (secs-all i c)
+
+      go : (c : ℕ) → tally x (chainAt S img 541) ≡ c → (S ≤ x) × (x < (M + 1) * S)
+      go zero e =
+          flat-data M S (filesAt S img (slotsOf ds)) each x (omega (arith, t, e, tally-append x (chainAt S img 541) (flat secsOf (filesAt S img (slotsOf ds)))))
+      go (suc c) e = free-sound .1 x (omega (arith, e))
+
+  holds-sound : (o : ℕ) → (live img o ≡ true → Chain S img (o + 13) (chainAt S img (o + 13))) → Holds S img o (fileAt S img o)
+  unfolding fileAt
+  holds-sound o c =
+      let l : live img o ≡ live (part img o 11) 0 = live-at img (part img o 11) o refl in
+      record {
+        at = refl;
+        name = refl;
+        mode = refl;
+        ends = refl;
+        date = refl;
+        chain = λ v. let u : live img o ≡ true = l ∙ v in subst (λ (x : Bool). Chain S img (o + 13) (pick x (chainAt S img (o + 13)) [])) (sym u) (c u);
+        dead = λ v. ap (λ (x : Bool). pick x (chainAt S img (o + 13)) []) (l ∙ v);
+        recs = refl;
+        body = refl;
+      }
+
+  pub start-agrees : (tab : List ℕ) → length tab ≡ 2560 → ((n : ℕ) → n < 8 → tb tab n 2 ≡ 0) → Agrees M S (directory img S) img tab (ledgerOf S img tab)
+  unfolding ledgerOf
+  start-agrees tab tl shut =
+      record {
+        shaped = h;
+        tlen = tl;
+        dir = directory-sound M S z img (small .at) (sane .right) .1;
+        ns = length-files S img (slotsOf ds);
+        nb = refl;
+        free = free-sound .0;
+        holds = λ i b. subst (λ (f : File). Holds S img (getD (slotsOf ds) i 0) f) (sym (files-at S img (slotsOf ds) i b)) (holds-sound (getD (slotsOf ds) i 0) (λ v. file-sound i b v .0));
+        keeps = λ n b. subst (λ (x : Block). Keeps S (slotsOf ds) tab n (filesAt S img (slotsOf ds)) x) (sym (closed-at n b)) (shut n b);
+        alone = λ n n′ ne hn hn′ w. absurd (omega (arith, ap writes (closed-at n hn)));
+        once = once-sound M S (chainAt S img 541 ++ flat secsOf (filesAt S img (slotsOf ds))) all-data
+            (subst (λ (l : List ℕ). eachOnce (M * S) l ≡ true) (listed-here) (sane .once));
+        spare = refl;
+        small = λ p g. small .at p;
+        len = refl;
+        aside = λ p low rec off. refl;
+      }
+    where
+      closed-at : (n : ℕ) → n < 8 → getD (replicate 8 closed) n closed ≡ closed
+      closed-at n b = getD-replicate {A = Block} 8 n closed closed b
+
+      listed-here : listed img S ≡ numbers S (chainAt S img 541 ++ flat secsOf (filesAt S img (slotsOf ds)))
+      listed-here = listed-is S img tab
+
+  -- names
+  name-at : (i : ℕ) → i < length (slotsOf ds) → nameOf (filesAt S img (slotsOf ds)) i ≡ part img (getD (slotsOf ds) i 0) 11
+  unfolding fileAt
+  name-at i b = ap (λ (f : File). f .name) (files-at S img (slotsOf ds) i b)
+
+  live-name : (i : ℕ) → i < length (slotsOf ds) → live (nameOf (filesAt S img (slotsOf ds)) i) 0 ≡ live img (getD (slotsOf ds) i 0)
+  live-name i b = ap (λ (x : List ℕ). live x 0) (name-at i b) ∙ sym (live-at img (part img (getD (slotsOf ds) i 0) 11) (getD (slotsOf ds) i 0) refl)
+
+  pub start-tidy : (tab : List ℕ) → Tidy ((ledgerOf S img tab) .slots)
+  unfolding ledgerOf
+  start-tidy tab =
+      let long : (i : ℕ) → i < length (filesAt S img (slotsOf ds)) → i < length (slotsOf ds) =
+      λ i b. omega (arith, length-files S img (slotsOf ds)) in
+      record {
+        long = λ i b. ap length (name-at i (long i b)) ∙ length-part img (getD (slotsOf ds) i 0) 11;
+        solid = λ i j a b e. live-name j (long j b) ∙ holed-sound img (slotsOf ds) (sane .no-hole) i j a (long j b)
+            (unused-part img (getD (slotsOf ds) i 0) ∙ ap (λ (x : List ℕ). neverUsed x 0) (sym (name-at i (omega (arith, a, long j b)))) ∙ e);
+        apart = λ i j ne a b u v w. two i j ne (long i a) (long j b) (sym (live-name i (long i a)) ∙ u) (sym (live-name j (long j b)) ∙ v)
+            (sym (name-at i (long i a)) ∙ w ∙ name-at j (long j b));
+      }
+    where
+      two : (i j : ℕ) → i ≢ j → i < length (slotsOf ds) → j < length (slotsOf ds) → live img (getD (slotsOf ds) i 0) ≡ true
+          → live img (getD (slotsOf ds) j 0) ≡ true
+          → part img (getD (slotsOf ds) i 0) 11 ≢ part img (getD (slotsOf ds) j 0) 11
+      two i j ne a b u v w = go (native.Mathlib.Decide.decLt i j)
+        where
+          go : Dec (i < j) → ⊥
+          go (yes l) = twins-sound img (slotsOf ds) (sane .no-twins) i j l b u v w
+          go (no l) = twins-sound img (slotsOf ds) (sane .no-twins) j i (omega (arith, ne, l)) a v u (sym w)
+
+-- ---- COMPLETE: a ledger that image and table agree with, and that is tidy
+
+file-path : (f g : File) → f .at ≡ g .at → f .name ≡ g .name → f .mode ≡ g .mode → f .ends ≡ g .ends → f .date ≡ g .date → f .secs ≡ g .secs
+    → f .recs ≡ g .recs → f .body ≡ g .body → f ≡ g
+file-path f g o p m e d q c r = λ i. record { at = o i; name = p i; mode = m i; ends = e i; date = d i; secs = q i; recs = c i; body = r i }
+
+module _ (M S : ℕ) (z : Shape M S) (ds : List ℕ) (d : Listing S ds) (img tab : List ℕ) (a : Ledger) (r : Agrees M S ds img tab a) where
+  free-back : (chainAt S img 541 ≡ a .free) × (chainRight img M S (wordAt img 541) (wordAt img (541 + 2)) (wordAt img (541 + 4)) ≡ true)
+  free-back = chain-complete M S z img 541 (a .free) (free-data M S z ds d img tab a r) (free-count M S z ds d img tab a r) (r .free)
+
+  file-back : (s : ℕ) → s < length (slotsOf ds) → live ((getD (a .slots) s noFile) .name) 0 ≡ true
+      → (chainAt S img (getD (slotsOf ds) s 0 + 13) ≡ (getD (a .slots) s noFile) .secs)
+      × (chainRight img M S (wordAt img (getD (slotsOf ds) s 0 + 13)) (wordAt img (getD (slotsOf ds) s 0 + 13 + 2)) (wordAt img (getD (slotsOf ds) s 0 + 13 + 4)) ≡ true)
+  file-back s b v =
+      chain-complete M S z img (getD (slotsOf ds) s 0 + 13) ((getD (a .slots) s noFile) .secs) (secs-data M S z ds d img tab a r s b) (secs-count M S z ds d img tab a r s b) (r .holds s b .chain v)
+
+  live-back : (s : ℕ) → s < length (slotsOf ds) → live img (getD (slotsOf ds) s 0) ≡ live ((getD (a .slots) s noFile) .name) 0
+  live-back s b = live-at img ((getD (a .slots) s noFile) .name) (getD (slotsOf ds) s 0) (r .holds s b .name)
+
+  secs-back : (s : ℕ) → s < length (slotsOf ds) → sectorsAt S img (getD (slotsOf ds) s 0) ≡ (getD (a .slots) s noFile) .secs
+  secs-back s b = rw (live-back s b) (go (live ((getD (a .slots) s noFile) .name) 0) refl)
+    where
+      go : (u : Bool) → live ((getD (a .slots) s noFile) .name) 0 ≡ u
+          → pick u (chainAt S img (getD (slotsOf ds) s 0 + 13)) [] ≡ (getD (a .slots) s noFile) .secs
+      go true e = file-back s b e .0
+      go false e = sym (r .holds s b .dead e)
+
+  -- the file that stands in a slot
+  pub file-is : (s : ℕ) → s < length (slotsOf ds) → fileAt S img (getD (slotsOf ds) s 0) ≡ getD (a .slots) s noFile
+  unfolding fileAt
+  file-is s b =
+      let q = secs-back s b in
+      let w = r .holds s b in
+      file-path (fileAt S img (getD (slotsOf ds) s 0)) (getD (a .slots) s noFile) (sym (w .at)) (w .name) (w .mode) (w .ends) (w .date) q
+      (ap (pieces 2 2 img) q ∙ sym (w .recs)) (ap (contents img) q ∙ sym (w .body))
+
+  pub files-are : filesAt S img (slotsOf ds) ≡ a .slots
+  files-are =
+      ext-getD noFile (filesAt S img (slotsOf ds)) (a .slots) (length-files S img (slotsOf ds) ∙ sym (r .ns))
+      (λ i h. let b : i < length (slotsOf ds) = omega (arith, length-files S img (slotsOf ds)) in files-at S img (slotsOf ds) i b ∙ file-is i b)
+
+  -- the ledger of the image is this one, but for its blocks
+  pub ledger-free : (ledgerOf S img tab) .free ≡ a .free
+  unfolding ledgerOf
+  ledger-free = free-back .0
+
+  pub ledger-slots : (ledgerOf S img tab) .slots ≡ a .slots
+  unfolding ledgerOf
+  ledger-slots = ap (λ (x : List ℕ). filesAt S img (slotsOf x)) (directory-is M S z img ds d (r .dir) .1) ∙ files-are
+
+  pub sane-back : Tidy (a .slots) → Sane img M S
+  unfolding freeRight ledgerOf
+  sane-back t =
+      let dr = directory-is M S z img ds d (r .dir) in
+      record {
+        right = dr .0;
+        no-hole = rw (dr .1) (holed-complete img (slotsOf ds) (λ i j x y e. live-back j y ∙ t .solid i j x (omega (arith, r .ns)) (unused-back i (omega arith) e)));
+        no-twins =
+            rw (dr .1) (twins-complete img (slotsOf ds) (λ i j x y u v w. t .apart i j (omega arith) (omega (arith, r .ns)) (omega (arith, r .ns))
+            (sym (live-back i (omega arith)) ∙ u) (sym (live-back j y) ∙ v) (sym (r .holds i (omega arith) .name) ∙ w ∙ r .holds j y .name)));
+        free = free-back .1;
+        files = rw (dr .1) (right-files M S img (slotsOf ds) (λ i b v. record-at M S img (getD (slotsOf ds) i 0) ∙ file-back i b (sym (live-back i b) ∙ v) .1));
+        once = rw (listed-is S img tab) (ap (λ (l : List ℕ). eachOnce (M * S) (numbers S l)) (ap₂ (λ (x : List ℕ) (y : List File). x ++ flat secsOf y) ledger-free ledger-slots)
+            ∙ once-complete M S (a .free ++ flat secsOf (a .slots)) (r .once));
+      }
+    where
+      unused-back : (i : ℕ) → i < length (slotsOf ds) → neverUsed img (getD (slotsOf ds) i 0) ≡ true
+          → neverUsed ((getD (a .slots) i noFile) .name) 0 ≡ true
+      unused-back i b e = ap (λ (x : List ℕ). neverUsed x 0) (sym (r .holds i b .name)) ∙ sym (unused-part img (getD (slotsOf ds) i 0)) ∙ e
