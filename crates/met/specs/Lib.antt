@@ -18,3 +18,4 @@ pub mod Changes
 pub mod Survey
 pub mod Forms
 pub mod Runs
+pub mod Rests

@@ -321,6 +321,44 @@ module _ (M S : ℕ) (z : Shape M S) (ds : List ℕ) (d : Listing S ds) (x : Mac
   unfolding fate
   beyond n b h = ask-beyond n b h .ans ∙ ap (λ (u : Bool). reply (pick u (ended (called M S a n (asks a n b))) (denied 13))) (le-ltb n 8 h)
 
+-- ---- the ledger after a call, but for the bytes of blocks
+
+pub record Likewise (a a′ : Ledger) : Type 0 where
+  pub free : a′ .free ≡ a .free
+  pub spare : a′ .spare ≡ a .spare
+  pub slots : a′ .slots ≡ a .slots
+  pub blocks : a′ .blocks ≡ a .blocks
+
+likewise-puts : (a : Ledger) (n : ℕ) (ps : List Put) → Likewise a (putInto a n ps)
+likewise-puts a n ps = record { free = refl; spare = refl; slots = refl; blocks = refl }
+
+likewise-edits : (a : Ledger) (n : ℕ) (e : Effect) (u v : Bool) → Likewise a (pick u (after a n (pick v (edits a e) (denied 13))) a)
+likewise-edits a n e false v = record { free = refl; spare = refl; slots = refl; blocks = refl }
+likewise-edits a n e true false = record { free = refl; spare = refl; slots = refl; blocks = refl }
+likewise-edits a n e true true =
+    pick-cases (λ (ψ : Fate). Likewise a (after a n ψ)) (eqb (answer e) 0) _ _ (λ h. likewise-puts a n (onBlock e)) (λ h. record { free = refl; spare = refl; slots = refl; blocks = refl })
+
+-- a preset or an extension
+pub likewise-set : (M S : ℕ) (a : Ledger) (n i v ans back : ℕ) → Likewise a (then M S a (record { made = setting n i v; ans = ans; back = back }))
+unfolding then fate
+likewise-set M S a n i v ans back = likewise-edits a n (presetIn (form a n) 0 i v) (eqb ans 0) (ltb n 8)
+
+pub likewise-extend : (M S : ℕ) (a : Ledger) (n c ans back : ℕ) → Likewise a (then M S a (record { made = extending n c; ans = ans; back = back }))
+unfolding then fate
+likewise-extend M S a n c ans back = likewise-edits a n (extensionIn (form a n) 0 c) (eqb ans 0) (ltb n 8)
+
+-- a call that was refused
+pub likewise-refused : (M S : ℕ) (a : Ledger) (n b ans back : ℕ) → ans ≢ 0 → Likewise a (then M S a (record { made = asking n b; ans = ans; back = back }))
+unfolding then
+likewise-refused M S a n b ans back h = rw (ne-eqb ans 0 h) (likewise-puts a n (put 1 (one ans) ∷ []))
+
+-- a call of one of the eight blocks
+pub likewise-asked : (M S : ℕ) (x : Machine) (a : Ledger) (n b : ℕ) → Asked M S x a n b
+    → Likewise (ledgerBy a (called M S a n (asks a n b))) (then M S a (entry flex x (asking n b)))
+likewise-asked M S x a n b k =
+    subst (λ (y : Ledger). Likewise (ledgerBy a (called M S a n (asks a n b))) y) (sym (k .is))
+    (likewise-puts (ledgerBy a (called M S a n (asks a n b))) n (putsBy (ended (called M S a n (asks a n b)))))
+
 -- THE HISTORY: after every list of calls
 module _ (M S : ℕ) (z : Shape M S) (ds : List ℕ) (d : Listing S ds) where
   pub always : (cs : List Call) (x : Machine) (a : Ledger) → Fine M S ds x a
