@@ -19,3 +19,5 @@ pub mod Survey
 pub mod Forms
 pub mod Runs
 pub mod Rests
+pub mod Sent
+pub mod Got
