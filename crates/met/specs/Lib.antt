@@ -21,3 +21,4 @@ pub mod Runs
 pub mod Rests
 pub mod Sent
 pub mod Got
+pub mod Second

@@ -107,7 +107,7 @@ sceneOf x a c = record { before = a; made = c; ans = answers flex x c; back = ga
 abbrev newName : List ℕ → Scene → List ℕ
 newName nm c = onCall (c .made) nm (λ m b. asks (c .before) m b .rename)
 
-rests-like : (a a′ : Ledger) → Likewise a a′ → (s : ℕ) (f : File) → Rests a s f → Rests a′ s f
+pub rests-like : (a a′ : Ledger) → Likewise a a′ → (s : ℕ) (f : File) → Rests a s f → Rests a′ s f
 rests-like a a′ l s f r = record {
   is = ap (λ (fs : List File). getD fs s noFile) (l .slots) ∙ r .is;
   low = omega (arith, ap length (l .slots), r .low);

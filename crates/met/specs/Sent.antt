@@ -111,7 +111,7 @@ counted-snoc i zero k e = ap (λ (x : ℕ). two x ∷ []) (omega arith)
 counted-snoc i (suc c) k e = ap (λ (l : List (List ℕ)). two i ∷ l) (counted-snoc (i + 1) c k (omega arith))
 
 -- the bytes of blocks have no say in it
-wrote-like : (a a′ : Ledger) → Likewise a a′ → (n s : ℕ) (nm sent : List ℕ) → Wrote a n s nm sent → Wrote a′ n s nm sent
+pub wrote-like : (a a′ : Ledger) → Likewise a a′ → (n s : ℕ) (nm sent : List ℕ) → Wrote a n s nm sent → Wrote a′ n s nm sent
 wrote-like a a′ l n s nm sent w =
     let k : file a′ s ≡ file a s = ap (λ (fs : List File). getD fs s noFile) (l .slots) in
     record {

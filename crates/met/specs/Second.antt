@@ -1,0 +1,357 @@
+-- DEMAND 2 of our service.
+use mathlib.Core.Path.{_≡_, refl, sym, ap, ap₂, _∙_, subst}
+use mathlib.Core.Logic.{_≢_}
+use mathlib.Core.Bool.{Bool, true, false}
+use mathlib.Core.List.{List, [], _∷_, _++_, append-assoc, append-nil}
+use Prim.Native.Nat.{ℕ, zero, suc, _+_, _-_, _*_, _/_, _%_, _≤_, _<_}
+use native.Mathlib.Omega.{arith}
+use native.Mathlib.Decide.{ℕ-discrete, decLt}
+use lib.ListN.{length, getD, set, length-set}
+use lib.Seq.{getD-set-same, getD-set-other}
+use lib.Dec.{eqb}
+use borrow.Author.Tests.{eq-eqb, ne-eqb, eqb-true}
+use Rattle.rules.specs.Bytes.{pick, within, wordAt, zeros}
+use Rattle.rules.specs.Names.{legal}
+use Rattle.rules.specs.Directory.{live, directory, slotsOf, sizeAt, vacant}
+use Rattle.rules.specs.Block.{idle}
+use Rattle.rules.specs.Files.{opened as putsOpened}
+use Rattle.rules.specs.Call.{served, fits}
+use Rattle.laws.specs.Tests.{both}
+use Rattle.laws.specs.Addresses.{Shape}
+use Rattle.chains.specs.Addresses.{absurd-bool}
+use Rattle.chains.specs.Chain.{pieces, length-pieces}
+use Rattle.chains.specs.Directory.{Listing}
+use Rattle.demands.specs.Ledger.{Call, setting, extending, asking, File, noFile, Block, closed, listing, reading, writing, Ledger, Request, asks, Fate, denied, granted, reply, nowhere, slot, fileNamed, vacantSlot, holdsOpen, busy, activity, block, file, entryOf, tableOf, onBlock, onFile, withLast, withMark, withName, newFile, padTo, openedToRead, openedToWrite, shutBlock, performed, called}
+use Rattle.demands.specs.Service.{flex, Machine, answers, next, entry, run, log}
+use Rattle.demands.specs.History.{then, history, scenes, hits, nameAfter, nameThen, Survives, sentBy, concat, front, content}
+use Rattle.demands.specs.Demands.{Start, begun, lastOf, perOf, told, Asks, Idle, nameOf, rest, counted, ledgerAfter, since, toldSince, ReadBack, Kept, WrittenTo, Created, Demand2}
+use Rattle.met.specs.Relation.{opens, writes, Writing, Keeps}
+use Rattle.met.specs.Quiet.{nobody, writes-opens}
+use Rattle.met.specs.Meets.{Sure, ledgerBy}
+use Rattle.met.specs.Searches.{seek-found}
+use Rattle.met.specs.Changes.{Changes, changes, rename-legal}
+use Rattle.met.specs.Forms.{table-is}
+use Rattle.met.specs.Runs.{Fine, Likewise, Asked, asks-is, asked, beyond, likewise-asked, step, always, start-shape, start-list, start-fine}
+use Rattle.met.specs.Rests.{Rests, found, sceneOf, rests-like, rests}
+use Rattle.met.specs.Sent.{called-of, concat-last, content-none, content-some, Wrote, wrote-like, written}
+use Rattle.met.specs.Got.{At, at-start, reads}
+
+-- ---- zeros to the end of the sector
+
+pad-none : (n : ℕ) → padTo n [] ≡ zeros n
+unfolding padTo zeros
+pad-none zero = refl
+pad-none (suc n) = ap (λ (y : List ℕ). 0 ∷ y) (pad-none n)
+
+pad-is : (n : ℕ) (l : List ℕ) → length l ≤ n → padTo n l ≡ l ++ zeros (n - length l)
+unfolding padTo
+pad-is zero [] h = pad-none zero
+pad-is zero (x ∷ l) h = absurd (omega arith)
+pad-is (suc n) [] h = pad-none (suc n) ∙ ap zeros (omega arith)
+pad-is (suc n) (x ∷ l) h = ap (λ (y : List ℕ). x ∷ y) (pad-is n l (omega arith)) ∙ ap (λ (k : ℕ). x ∷ (l ++ zeros k)) (omega arith)
+
+zeros-none : zeros 0 ≡ []
+unfolding zeros
+zeros-none = refl
+
+-- how many sectors, and how many zeros
+sectors-whole : (n k : ℕ) → n ≡ 252 * k → ((n + 251) / 252 ≡ k) × ((252 - n % 252) % 252 ≡ 0)
+sectors-whole n k e = (omega arith, omega arith)
+
+sectors-part : (n k r : ℕ) → n + 252 ≡ 252 * k + r → 1 ≤ r → r < 252 → ((n + 251) / 252 ≡ k) × ((252 - n % 252) % 252 ≡ 252 - r)
+sectors-part n k r e h b = (omega arith, rest-is (k - 1) (omega arith))
+  where
+    rest-is : (j : ℕ) → n ≡ 252 * j + r → (252 - n % 252) % 252 ≡ 252 - r
+    rest-is j q = let m : n % 252 ≡ r = omega arith in rw m (omega arith)
+
+-- nobody writes it: it can be read
+quiet-free : (bs : List Block) (s c : ℕ) → ((m : ℕ) → m < c → writes (getD bs m closed) ≢ suc s) → busy false s bs c ≡ false
+unfolding busy
+quiet-free bs s zero h = refl
+quiet-free bs s (suc c) h = rw (go (getD bs c closed) (h c (omega arith))) (quiet-free bs s c (λ m b. h m (omega arith)))
+  where
+    go : (b : Block) → writes b ≢ suc s → holdsOpen false s b ≡ false
+    go closed n = refl
+    go (listing p) n = refl
+    go (reading t j i) n = refl
+    go (writing t ub) n = ne-eqb t s (λ e. n (ap suc e))
+
+-- no name is given
+either-way : (u : Bool) (nm : List ℕ) → legal nm 0 ≡ true → legal (pick (pick u false false) nm nm) 0 ≡ true
+either-way true nm l = l
+either-way false nm l = l
+
+module _ (M S : ℕ) (z : Shape M S) (ds : List ℕ) (d : Listing S ds) where
+  -- an idle block takes the functions that want one
+  fits-idle : (k act : ℕ) → k ≡ 1 → idle act ≡ true → fits k act ≡ true
+  unfolding fits
+  fits-idle k act e h = rw e h
+
+  -- ---- the name stays legal
+  rename-ok : (x : Machine) (a : Ledger) (g : Fine M S ds x a) (n b : ℕ) (nm : List ℕ) → legal nm 0 ≡ true → (u : Bool)
+      → hits 13 nm (sceneOf x a (asking n b)) ≡ u → legal (pick u (asks a n b .rename) nm) 0 ≡ true
+  rename-ok x a g n b nm l false e = l
+  rename-ok x a g n b nm l true e =
+      let p = both (eqb (answers flex x (asking n b)) 0) _ e in
+      let q = both (eqb (asks a n b .code) 13) _ (p .1) in
+      go (eqb-true (answers flex x (asking n b)) 0 (p .0)) (eqb-true (asks a n b .code) 13 (q .0)) (decLt n 8)
+    where
+      go : answers flex x (asking n b) ≡ 0 → asks a n b .code ≡ 13 → Dec (n < 8) → legal (asks a n b .rename) 0 ≡ true
+      go q c (no h) = absurd (omega (arith, q, beyond M S z ds d x a g n b (omega arith)))
+      go q c (yes h) =
+          let st = asked M S z ds d x a g n b h in
+          by (called M S a n (asks a n b)) (changes M S a n (asks a n b)) (st .sure) (st .ans)
+        where
+          by : (φ : Fate) → Changes a n (asks a n b) φ → Sure φ → answers flex x (asking n b) ≡ reply φ → legal (asks a n b .rename) 0 ≡ true
+          by (denied v) k su an = absurd (su (sym an ∙ q))
+          by (granted v a′ ps) k su an = rename-legal a a′ n (asks a n b) k c
+
+  name-ok : (x : Machine) (a : Ledger) (g : Fine M S ds x a) (c : Call) (nm : List ℕ) → legal nm 0 ≡ true → legal (nameAfter nm (sceneOf x a c)) 0 ≡ true
+  name-ok x a g (setting n i v) nm l = either-way (eqb (answers flex x (setting n i v)) 0) nm l
+  name-ok x a g (extending n c) nm l = either-way (eqb (answers flex x (extending n c)) 0) nm l
+  name-ok x a g (asking n b) nm l = rename-ok x a g n b nm l (hits 13 nm (sceneOf x a (asking n b))) refl
+
+  legal-then : (cs : List Call) (x : Machine) (a : Ledger) → Fine M S ds x a → (nm : List ℕ) → legal nm 0 ≡ true
+      → legal (nameThen nm (scenes M S a (log flex x cs))) 0 ≡ true
+  unfolding log scenes entry nameThen
+  legal-then [] x a g nm l = l
+  legal-then (c ∷ cs) x a g nm l =
+      legal-then cs (next flex x c) (then M S a (entry flex x c)) (step M S z ds d x a g c .fine) (nameAfter nm (sceneOf x a c)) (name-ok x a g c nm l)
+
+  -- ---- a call whose fate is known
+  module _ (x : Machine) (a : Ledger) (g : Fine M S ds x a) (n b : ℕ) (hn : n < 8) where
+    pub answer-by : (φ : Fate) → called M S a n (asks a n b) ≡ φ → answers flex x (asking n b) ≡ reply φ
+    answer-by φ e = asked M S z ds d x a g n b hn .ans ∙ ap reply e
+
+    pub like-by : (φ : Fate) → called M S a n (asks a n b) ≡ φ → Likewise (ledgerBy a φ) (then M S a (entry flex x (asking n b)))
+    like-by φ e =
+        subst (λ (ψ : Fate). Likewise (ledgerBy a ψ) (then M S a (entry flex x (asking n b)))) e
+        (likewise-asked M S x a n b (asked M S z ds d x a g n b hn))
+
+  -- ---- a file at rest is opened for read and read
+  module _ (x : Machine) (a : Ledger) (g : Fine M S ds x a) (s : ℕ) (f : File) (r : Rests a s f) (ok : legal (f .name) 0 ≡ true)
+      (m b : ℕ) (k : Asks a m 1) (i : Idle a m) (nm : nameOf a m ≡ f .name) where
+    abbrev a1 : Ledger
+    a1 = then M S a (entry flex x (asking m b))
+
+    opened : called M S a m (asks a m b) ≡ granted 0 (onBlock a m (reading s 0 0)) (putsOpened 1 ((file a s) .at) (entryOf (file a s)))
+    unfolding performed served within openedToRead
+    opened =
+        let fd : fileNamed (asks a m b .name) (a .slots) ≡ slot s = ap (λ (y : List ℕ). fileNamed y (a .slots)) nm ∙ found a (g .tidy) s f r in
+        let lg : legal (asks a m b .name) 0 ≡ true = ap (λ (y : List ℕ). legal y 0) nm ∙ ok in
+        called-of M S a m (asks a m b) 1 (k .function) refl (k .drive) (fits-idle 1 (activity (block a m)) refl i)
+        ∙ (rw (k .function, lg, fd, quiet-free (a .blocks) s 8 (r .quiet)) refl)
+
+    pub read-back : ReadBack flex M S x a (concat (f .body)) m b
+    read-back =
+        let l = like-by x a g m b (k .block) _ opened in
+        record {
+          opens = answer-by x a g m b (k .block) _ opened;
+          reads = λ cs op. reads M S z ds d cs (next flex x (asking m b)) a1 (step M S z ds d x a g (asking m b) .fine) m s 0 (concat (f .body)) (k .block)
+              (at-start a1 m s (concat (f .body))
+              (ap (λ (bs : List Block). getD bs m closed) (l .blocks) ∙ getD-set-same (a .blocks) m (reading s 0 0) closed (omega (arith, g .agrees .nb, k .block)))
+              (ap (λ (fs : List File). concat ((getD fs s noFile) .body)) (l .slots) ∙ ap (λ (y : File). concat (y .body)) (r .is))) op;
+        }
+
+  -- ---- a file that was written is closed
+  module _ (x : Machine) (a : Ledger) (g : Fine M S ds x a) (n s : ℕ) (nm sent : List ℕ) (hn : n < 8) (w : Wrote a n s nm sent) (b : ℕ) (k : Asks a n 4) where
+    wr : Writing S (slotsOf ds) (x .tab) n (file a s) s (w .left)
+    wr = subst (λ (y : Block). Keeps S (slotsOf ds) (x .tab) n (a .slots) y) (w .writer) (g .agrees .keeps n hn)
+
+    body-length : length ((file a s) .body) ≡ length ((file a s) .secs)
+    body-length = ap length (g .agrees .holds s (wr .slot) .body) ∙ length-pieces 4 252 (x .img) ((file a s) .secs)
+
+    close-fate : called M S a n (asks a n b) ≡ shutBlock M S a n (asks a n b) (writing s (w .left))
+    unfolding performed served within fits
+    close-fate =
+        called-of M S a n (asks a n b) 4 (k .function) refl (k .drive) (ap (λ (y : Block). fits 4 (activity y)) (w .writer)) ∙ (rw (k .function, w .writer) refl)
+
+    -- it is accepted, whatever was written
+    shut-accepted : (u v : Bool) (p q t : Fate) → reply p ≡ 0 → reply q ≡ 0 → reply t ≡ 0 → reply (pick u p (pick v q t)) ≡ 0
+    shut-accepted true v p q t hp hq ht = hp
+    shut-accepted false true p q t hp hq ht = hq
+    shut-accepted false false p q t hp hq ht = ht
+
+    pub close-accepted : answers flex x (asking n b) ≡ 0
+    close-accepted =
+        answer-by x a g n b hn _ close-fate ∙ shut-accepted (eqb (length ((file a s) .secs)) 0) (eqb (length (w .left)) 0) _ _ _ refl refl refl
+
+    module _ (some : 1 ≤ length sent) where
+      has-secs : 1 ≤ length ((file a s) .secs)
+      has-secs = go (ℕ-discrete (length (w .left)) 0)
+        where
+          go : Dec (length (w .left) ≡ 0) → 1 ≤ length ((file a s) .secs)
+          go (yes e) = let q = w .whole e in omega arith
+          go (no e) = wr .some (omega arith)
+
+      -- the ledger after the close has it at rest
+      record Shut (φ : Fate) : Type 0 where
+        pub f : File
+        pub at-rest : Rests (ledgerBy a φ) s f
+        pub name : f .name ≡ nm
+        pub bytes : concat (f .body) ≡ sent ++ zeros (rest (length sent))
+
+      quiet-now : (m : ℕ) → m < 8 → writes (getD (set (a .blocks) n closed) m closed) ≢ suc s
+      quiet-now m hm q = go (ℕ-discrete m n)
+        where
+          go : Dec (m ≡ n) → ⊥
+          go (yes e) =
+              omega (arith, q, ap writes (ap (λ (k : ℕ). getD (set (a .blocks) n closed) k closed) e ∙ getD-set-same (a .blocks) n closed closed (omega (arith, g .agrees .nb))))
+          go (no e) =
+              let y : writes (getD (a .blocks) m closed) ≡ suc s = ap writes (sym (getD-set-other (a .blocks) n m closed closed e)) ∙ q in
+              nobody M S z ds d (x .img) (x .tab) a (g .agrees) n hn s (w .left) (w .writer) m hm e (sym (writes-opens (getD (a .blocks) m closed) (omega (arith, y))) ∙ y)
+
+      shut-fate : Shut (shutBlock M S a n (asks a n b) (writing s (w .left)))
+      shut-fate = go (ℕ-discrete (length (w .left)) 0)
+        where
+          alive : live ((file a s) .name) 0 ≡ true
+          alive = wr .alive
+
+          low : s < length (a .slots)
+          low = omega (arith, g .agrees .ns, wr .slot)
+
+          go : Dec (length (w .left) ≡ 0) → Shut (shutBlock M S a n (asks a n b) (writing s (w .left)))
+          go (yes e) =
+              let y = sectors-whole (length sent) (length ((file a s) .secs)) (w .whole e) in
+              rw (ne-eqb (length ((file a s) .secs)) 0 (omega (arith, has-secs)), eq-eqb (length (w .left)) 0 e)
+              (record {
+                f = file a s;
+                at-rest = record { is = refl; low = low; alive = alive; quiet = quiet-now };
+                name = w .name;
+                bytes = sym (content-none ((file a s) .body) (w .left) e) ∙ w .bytes ∙ sym (ap (λ (k : ℕ). sent ++ zeros k) (y .1) ∙ ap (λ (l : List ℕ). sent ++ l) zeros-none ∙ append-nil sent);
+              })
+          go (no e) =
+              let h : 1 ≤ length (w .left) = omega arith in
+              let y = sectors-part (length sent) (length ((file a s) .secs)) (length (w .left)) (w .part h) h (wr .short) in
+              let nf = withLast (file a s) (padTo 252 (w .left)) in
+              rw (ne-eqb (length ((file a s) .secs)) 0 (omega (arith, has-secs)), ne-eqb (length (w .left)) 0 e)
+              (record {
+                f = nf;
+                at-rest = record {
+                  is = getD-set-same (a .slots) s nf noFile low;
+                  low = omega (arith, low, length-set (a .slots) s nf);
+                  alive = alive;
+                  quiet = quiet-now;
+                };
+                name = w .name;
+                bytes = concat-last ((file a s) .body) (padTo 252 (w .left)) (omega (arith, body-length, has-secs))
+                    ∙ ap (λ (l : List ℕ). concat (front ((file a s) .body)) ++ l) (pad-is 252 (w .left) (omega (arith, wr .short)))
+                    ∙ sym (append-assoc (concat (front ((file a s) .body))) (w .left) (zeros (252 - length (w .left))))
+                    ∙ ap₂ (λ (l : List ℕ) (k : ℕ). l ++ zeros k) (sym (content-some ((file a s) .body) (w .left) h) ∙ w .bytes) (sym (y .1));
+              })
+
+      pub kept : legal nm 0 ≡ true → Kept flex M S (next flex x (asking n b)) (then M S a (entry flex x (asking n b))) nm sent
+      kept ok =
+          let x1 = next flex x (asking n b) in
+          let h1 = then M S a (entry flex x (asking n b)) in
+          let g1 = step M S z ds d x a g (asking n b) .fine in
+          let sh = shut-fate in
+          let l = like-by x a g n b hn _ close-fate in
+          let r1 = rests-like (ledgerBy a (shutBlock M S a n (asks a n b) (writing s (w .left)))) h1 l s (sh .f) (sh .at-rest) in
+          record {
+            back = λ cs sv m c ka i e.
+                let ss = scenes M S h1 (log flex x1 cs) in
+                let nm′ = nameThen nm ss in
+                let fn : nameThen (sh .f .name) ss ≡ nm′ = ap (λ (y : List ℕ). nameThen y ss) (sh .name) in
+                let rs = rests M S z ds d cs x1 h1 g1 s (sh .f) r1 (subst (λ (y : List ℕ). Survives y ss) (sym (sh .name)) sv) in
+                let rs2 : Rests (history M S h1 (log flex x1 cs)) s (withName (sh .f) nm′) =
+                subst (λ (y : List ℕ). Rests (history M S h1 (log flex x1 cs)) s (withName (sh .f) y)) fn rs in
+                subst (λ (l : List ℕ). ReadBack flex M S (run flex x1 cs) (history M S h1 (log flex x1 cs)) l m c) (sh .bytes)
+                (read-back (run flex x1 cs) (history M S h1 (log flex x1 cs)) (always M S z ds d cs x1 h1 g1 .0) s (withName (sh .f) nm′) rs2 (legal-then cs x1 h1 g1 nm ok) m c ka i e);
+          }
+
+  -- ---- a new file
+  module _ (x : Machine) (a : Ledger) (g : Fine M S ds x a) (n s b : ℕ) (k : Asks a n 2) (i : Idle a n) (ok : legal (nameOf a n) 0 ≡ true)
+      (none : fileNamed (nameOf a n) (a .slots) ≡ nowhere) (space : vacantSlot (a .slots) ≡ slot s) where
+    abbrev nf : File
+    nf = newFile ((file a s) .at) (nameOf a n) (asks a n b .date)
+
+    abbrev a2 : Ledger
+    a2 = then M S a (entry flex x (asking n b))
+
+    fits-two : (act : ℕ) → idle act ≡ true → fits 2 act ≡ true
+    unfolding fits
+    fits-two act h = h
+
+    made : called M S a n (asks a n b) ≡ granted 0 (onFile a s nf n (writing s [])) (putsOpened 2 (nf .at) (entryOf nf))
+    unfolding performed served within openedToWrite
+    made =
+        called-of M S a n (asks a n b) 2 (k .function) refl (k .drive) (fits-two (activity (block a n)) i)
+        ∙ (rw (k .function, ok, none, space) refl)
+
+    low : s < length (a .slots)
+    low = seek-found (λ y. vacant y 0) (a .slots) s space .low
+
+    starts : Wrote (onFile a s nf n (writing s [])) n s (nameOf a n) []
+    unfolding content counted
+    starts =
+        let sf = getD-set-same (a .slots) s nf noFile low in
+        record {
+          left = [];
+          writer = getD-set-same (a .blocks) n (writing s []) closed (omega (arith, g .agrees .nb, k .block));
+          name = ap (λ (y : File). y .name) sf;
+          bytes = ap (λ (y : File). content (y .body) []) sf;
+          whole = λ y. sym (ap (λ (y : File). 252 * length (y .secs)) sf);
+          part = λ y. absurd (omega arith);
+          recs = ap (λ (y : File). y .recs) sf ∙ ap (λ (y : File). counted 1 (length (y .secs))) (sym sf);
+        }
+
+    -- its sectors are those of what was sent
+    module _ (y : Machine) (h : Ledger) (g2 : Fine M S ds y h) (sent : List ℕ) (w : Wrote h n s (nameOf a n) sent) where
+      wrt : Writing S (slotsOf ds) (y .tab) n (file h s) s (w .left)
+      wrt = subst (λ (v : Block). Keeps S (slotsOf ds) (y .tab) n (h .slots) v) (w .writer) (g2 .agrees .keeps n (k .block))
+
+      count : Dec (length (w .left) ≡ 0) → (length sent + 251) / 252 ≡ length ((file h s) .secs)
+      count (yes q) = sectors-whole (length sent) (length ((file h s) .secs)) (w .whole q) .0
+      count (no q) =
+          sectors-part (length sent) (length ((file h s) .secs)) (length (w .left)) (w .part (omega arith)) (omega arith) (wrt .short) .0
+
+      size-is : sizeAt (y .img) (getD (slotsOf ds) s 0) ≡ (length sent + 251) / 252
+      size-is =
+          let c = g2 .agrees .holds s (wrt .slot) .chain (wrt .alive) in
+          let e : wordAt (y .img) (getD (slotsOf ds) s 0 + 17) ≡ length ((file h s) .secs) = ap (wordAt (y .img)) (omega arith) ∙ c .size in
+          e ∙ sym (count (ℕ-discrete (length (w .left)) 0))
+
+      records-are : pieces 2 2 (y .img) ((file h s) .secs) ≡ counted 1 ((length sent + 251) / 252)
+      records-are = sym (g2 .agrees .holds s (wrt .slot) .recs) ∙ w .recs ∙ ap (counted 1) (sym (count (ℕ-discrete (length (w .left)) 0)))
+
+    pub created : Created flex M S x a n s b
+    created =
+        let x1 = next flex x (asking n b) in
+        let g1 = step M S z ds d x a g (asking n b) .fine in
+        let l = like-by x a g n b (k .block) _ made in
+        let w0 : Wrote a2 n s (nameOf a n) [] = wrote-like (onFile a s nf n (writing s [])) a2 l n s (nameOf a n) [] starts in
+        let hs : s < length (slotsOf ds) = omega (arith, low, g .agrees .ns) in
+        let at : file a2 s .at ≡ getD (slotsOf ds) s 0 = g1 .agrees .holds s hs .at in
+        record {
+          opens = answer-by x a g n b (k .block) _ made;
+          writes = λ cs op.
+              let wn = written M S z ds d cs x1 a2 g1 n s (nameOf a n) [] (k .block) w0 op in
+              let g2 = always M S z ds d cs x1 a2 g1 .0 in
+              let x2 = run flex x1 cs in
+              let h2 = history M S a2 (log flex x1 cs) in
+              let sent = sentBy n (scenes M S a2 (log flex x1 cs)) in
+              record {
+                accepts = wn .1;
+                size = ap (sizeAt (x2 .img)) at ∙ size-is x2 h2 g2 sent (wn .0);
+                records = records-are x2 h2 g2 sent (wn .0);
+                closes = λ c ka. close-accepted x2 h2 g2 n s (nameOf a n) sent (k .block) (wn .0) c ka;
+                kept = λ c ka some. kept x2 h2 g2 n s (nameOf a n) sent (k .block) (wn .0) c ka some ok;
+              };
+        }
+
+-- ---- the demand
+
+module _ (x : Machine) (st : Start x) (cs : List Call) where
+  pub fine : Fine (lastOf x) (perOf x) (directory (x .img) (perOf x)) (run flex x cs) (told flex x cs)
+  fine = always (lastOf x) (perOf x) (start-shape x st) (directory (x .img) (perOf x)) (start-list x st) cs x (begun x) (start-fine x st) .0
+
+  pub table-here : run flex x cs .tab ≡ tableOf (told flex x cs)
+  table-here = table-is (run flex x cs .tab) (told flex x cs .forms) (fine .formed) (fine .agrees .tlen)
+
+pub demand2 : Demand2 flex
+demand2 = record {
+  presets = λ x st cs n i v. ap (λ (t : List ℕ). flex .preset t n i v) (table-here x st cs);
+  creates = λ x st cs n s b k i ok none space.
+      created (lastOf x) (perOf x) (start-shape x st) (directory (x .img) (perOf x)) (start-list x st) (run flex x cs) (told flex x cs) (fine x st cs) n s b k i ok none space;
+}
