@@ -193,6 +193,15 @@ forms-kept a a′ n q (made ne s x y w) = refl
 forms-kept a a′ n q (gone s x y by) = refl
 forms-kept a a′ n q (retitled s x y by w v) = refl
 
+pub base-kept : (a a′ : Ledger) (n : ℕ) (q : Request) → Change a n q a′ → a′ .base ≡ a .base
+base-kept a a′ n q (still ne) = refl
+base-kept a a′ n q (turned ne b st) = refl
+base-kept a a′ n q (worked ne s ub fr vs f b x y st fd) = refl
+base-kept a a′ n q (dropped ne s ub x) = refl
+base-kept a a′ n q (made ne s x y w) = refl
+base-kept a a′ n q (gone s x y by) = refl
+base-kept a a′ n q (retitled s x y by w v) = refl
+
 pub freed : (a a′ : Ledger) (n : ℕ) (q : Request) → Change a n q a′ → Freed a (a′ .free) (a′ .spare)
 freed a a′ n q (still ne) = same
 freed a a′ n q (turned ne b st) = same

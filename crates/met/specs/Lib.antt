@@ -22,3 +22,4 @@ pub mod Rests
 pub mod Sent
 pub mod Got
 pub mod Second
+pub mod Stays

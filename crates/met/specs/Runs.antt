@@ -7,9 +7,10 @@ use Prim.Native.Nat.{ℕ, _+_, _*_, _≤_, _<_}
 use native.Mathlib.Omega.{arith}
 use native.Mathlib.Decide.{decLt, ℕ-discrete}
 use lib.ListN.{length, getD}
+use lib.Seq.{getD-set-same}
 use lib.Dec.{eqb, ltb}
 use borrow.Author.Tests.{eq-eqb, ne-eqb, lt-ltb, le-ltb, ltb-true}
-use Rattle.rules.specs.Bytes.{pick, one, zeros}
+use Rattle.rules.specs.Bytes.{pick, part, one, zeros}
 use Rattle.rules.specs.Stores.{Put, put, stored, puts}
 use Rattle.rules.specs.Outcome.{Effect, effect, answer, given, onImage, onBlock}
 use Rattle.rules.specs.Image.{lastTrack, perTrack}
@@ -176,6 +177,13 @@ module _ (M S : ℕ) (z : Shape M S) (ds : List ℕ) (d : Listing S ds) (x : Mac
               (formed-puts (x .tab) (a .forms) (f .formed) (f .agrees .tlen) n (onBlock (call (x .img) (x .tab) n b)) hn (met .within)));
         }
 
+    -- the bytes of its block afterwards
+    pub block-after : part (next flex x (asking n b) .tab) (320 * n) 320 ≡ puts (form a n) 0 (putsBy (ended φ))
+    block-after =
+        let fs = forms-by φ (changes M S a n (asks a n b)) in
+        ask-fine .formed .is n hn ∙ getD-set-same ((ledgerBy a φ) .forms) n (puts (form (ledgerBy a φ) n) 0 (putsBy (ended φ))) [] (omega (arith, ap length fs, f .formed .count))
+        ∙ ap (λ (y : List (List ℕ)). puts (getD y n []) 0 (putsBy (ended φ))) fs
+
     pub ask-step : Step M S ds x a (asking n b)
     unfolding outcome
     ask-step = record {
@@ -324,19 +332,20 @@ module _ (M S : ℕ) (z : Shape M S) (ds : List ℕ) (d : Listing S ds) (x : Mac
 -- ---- the ledger after a call, but for the bytes of blocks
 
 pub record Likewise (a a′ : Ledger) : Type 0 where
+  pub base : a′ .base ≡ a .base
   pub free : a′ .free ≡ a .free
   pub spare : a′ .spare ≡ a .spare
   pub slots : a′ .slots ≡ a .slots
   pub blocks : a′ .blocks ≡ a .blocks
 
 likewise-puts : (a : Ledger) (n : ℕ) (ps : List Put) → Likewise a (putInto a n ps)
-likewise-puts a n ps = record { free = refl; spare = refl; slots = refl; blocks = refl }
+likewise-puts a n ps = record { base = refl; free = refl; spare = refl; slots = refl; blocks = refl }
 
 likewise-edits : (a : Ledger) (n : ℕ) (e : Effect) (u v : Bool) → Likewise a (pick u (after a n (pick v (edits a e) (denied 13))) a)
-likewise-edits a n e false v = record { free = refl; spare = refl; slots = refl; blocks = refl }
-likewise-edits a n e true false = record { free = refl; spare = refl; slots = refl; blocks = refl }
+likewise-edits a n e false v = record { base = refl; free = refl; spare = refl; slots = refl; blocks = refl }
+likewise-edits a n e true false = record { base = refl; free = refl; spare = refl; slots = refl; blocks = refl }
 likewise-edits a n e true true =
-    pick-cases (λ (ψ : Fate). Likewise a (after a n ψ)) (eqb (answer e) 0) _ _ (λ h. likewise-puts a n (onBlock e)) (λ h. record { free = refl; spare = refl; slots = refl; blocks = refl })
+    pick-cases (λ (ψ : Fate). Likewise a (after a n ψ)) (eqb (answer e) 0) _ _ (λ h. likewise-puts a n (onBlock e)) (λ h. record { base = refl; free = refl; spare = refl; slots = refl; blocks = refl })
 
 -- a preset or an extension
 pub likewise-set : (M S : ℕ) (a : Ledger) (n i v ans back : ℕ) → Likewise a (then M S a (record { made = setting n i v; ans = ans; back = back }))

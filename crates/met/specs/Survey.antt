@@ -251,7 +251,7 @@ module _ (M S : ℕ) (z : Shape M S) (ds : List ℕ) (d : Listing S ds) (img tab
   free-back : (chainAt S img 541 ≡ a .free) × (chainRight img M S (wordAt img 541) (wordAt img (541 + 2)) (wordAt img (541 + 4)) ≡ true)
   free-back = chain-complete M S z img 541 (a .free) (free-data M S z ds d img tab a r) (free-count M S z ds d img tab a r) (r .free)
 
-  file-back : (s : ℕ) → s < length (slotsOf ds) → live ((getD (a .slots) s noFile) .name) 0 ≡ true
+  pub file-back : (s : ℕ) → s < length (slotsOf ds) → live ((getD (a .slots) s noFile) .name) 0 ≡ true
       → (chainAt S img (getD (slotsOf ds) s 0 + 13) ≡ (getD (a .slots) s noFile) .secs)
       × (chainRight img M S (wordAt img (getD (slotsOf ds) s 0 + 13)) (wordAt img (getD (slotsOf ds) s 0 + 13 + 2)) (wordAt img (getD (slotsOf ds) s 0 + 13 + 4)) ≡ true)
   file-back s b v =
