@@ -23,3 +23,4 @@ pub mod Sent
 pub mod Got
 pub mod Second
 pub mod Stays
+pub mod Third
