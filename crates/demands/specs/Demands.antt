@@ -10,7 +10,7 @@ use Rattle.rules.specs.Bytes.{pick, within, byteAt, part, over, one, two, zeros
 use Rattle.rules.specs.Image.{lastTrack, perTrack, index, isSector, firstFree, lastFree}
 use Rattle.rules.specs.Names.{legal}
 use Rattle.rules.specs.Directory.{live, slots, sizeAt, member}
-use Rattle.rules.specs.Outcome.{done, answer, settled, out}
+use Rattle.rules.specs.Outcome.{done, answer, given, settled, out}
 use Rattle.rules.specs.Block.{functionIn, activityIn, positionIn, idle}
 use Rattle.rules.specs.Call.{checked, call}
 use Rattle.rules.specs.Census.{Survey, survey, census, tally}
@@ -69,9 +69,9 @@ pub record Demand1 (σ : Service) : Type 0 where
   pub census : (img xs ys : List ℕ) → σ .census img xs ys ≡ flex .census img xs ys
   -- a call of a wrong table or number: nothing at all
   pub none : (img tab : List ℕ) (n b : ℕ) → (Lent tab n → ⊥) → σ .call img tab n b ≡ out 13 0 img tab
-  -- "Numbers given back": one of the stated numbers, the one that 01 has for this call; 16, 1, 16, 18 / 13 before all else
+  -- "Numbers given back": one of the stated numbers; the one, and the byte, that 01 has for this call; 16, 1, 16, 18 / 13 before all else
   pub stated : (img tab : List ℕ) (n b : ℕ) → member (ansOf (σ .call img tab n b)) answerNumbers ≡ true
-  pub exact : (img tab : List ℕ) (n b : ℕ) → ansOf (σ .call img tab n b) ≡ answer (call img tab n b)
+  pub exact : (img tab : List ℕ) (n b : ℕ) → (ansOf (σ .call img tab n b) ≡ answer (call img tab n b)) × (byteOf (σ .call img tab n b) ≡ given (call img tab n b))
   pub early : (img tab : List ℕ) (n b : ℕ) → Lent tab n → due img tab (320 * n) ≢ 0 → ansOf (σ .call img tab n b) ≡ due img tab (320 * n)
   -- a refusal: byte 0, the same image, the same table but for byte 1 of the block
   pub refused : (img tab : List ℕ) (n b : ℕ) → Lent tab n → ansOf (σ .call img tab n b) ≢ 0
@@ -79,7 +79,7 @@ pub record Demand1 (σ : Service) : Type 0 where
   -- any call: lengths stay; byte 1 is the answer; a byte is given in reading only
   pub lengths : (img tab : List ℕ) (n b : ℕ) → (length (imgOf (σ .call img tab n b)) ≡ length img) × (length (tabOf (σ .call img tab n b)) ≡ length tab)
   pub error : (img tab : List ℕ) (n b : ℕ) → Lent tab n → byteAt (tabOf (σ .call img tab n b)) (320 * n + 1) ≡ ansOf (σ .call img tab n b)
-  pub given : (img tab : List ℕ) (n b : ℕ) → (functionIn tab (320 * n) ≡ 0 → activityIn tab (320 * n) ≢ 1) → byteOf (σ .call img tab n b) ≡ 0
+  pub silent : (img tab : List ℕ) (n b : ℕ) → (functionIn tab (320 * n) ≡ 0 → activityIn tab (320 * n) ≢ 1) → byteOf (σ .call img tab n b) ≡ 0
   -- where the table has bytes: the other blocks stay; so do the bytes of its own that the function does not name
   pub others : (img tab : List ℕ) (n b p : ℕ) → Small tab → (320 * n ≤ p → p < 320 * n + 320 → ⊥) → byteAt (tabOf (σ .call img tab n b)) p ≡ byteAt tab p
   pub unnamed : (img tab : List ℕ) (n b i : ℕ) → Small tab → i < 320 → i ≢ 1 → names (functionIn tab (320 * n)) (activityIn tab (320 * n)) i ≡ false

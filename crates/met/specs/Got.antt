@@ -191,18 +191,22 @@ module _ (M S : ℕ) (z : Shape M S) (ds : List ℕ) (d : Listing S ds) where
         let st = asked M S z ds d x a g n b hn in
         let an : answers flex x (asking n b) ≡ 0 = st .ans ∙ ap reply φ in
         let lk = subst (λ (ψ : Fate). Likewise (ledgerBy a ψ) (then M S a (entry flex x (asking n b)))) φ (likewise-asked M S x a n b st) in
-        rw (eq-eqb n n refl, k)
-        (at-like (onBlock a n (reading s 0 0)) (then M S a (entry flex x (asking n b))) lk n s 0 l
-        (at-start (onBlock a n (reading s 0 0)) n s l (getD-set-same (a .blocks) n (reading s 0 0) closed (omega (arith, g .agrees .nb))) (t .bytes)),
-        (λ r. absurd-bool r refl), λ r. an)
+        rw (eq-eqb n n refl, k) (
+          at-like (onBlock a n (reading s 0 0)) (then M S a (entry flex x (asking n b))) lk n s 0 l
+              (at-start (onBlock a n (reading s 0 0)) n s l (getD-set-same (a .blocks) n (reading s 0 0) closed (omega (arith, g .agrees .nb))) (t .bytes)),
+          (λ r. absurd-bool r refl),
+          λ r. an,
+        )
 
     -- its own, refused
     own-refused : (b : ℕ) → asks a n b .code ≢ 0 → asks a n b .code ≢ 5 → answers flex x (asking n b) ≢ 0 → Now (asking n b)
     unfolding entry
     own-refused b c0 c5 q =
-        rw (eq-eqb n n refl, ne-eqb (asks a n b .code) 0 c0, ne-eqb (asks a n b .code) 5 c5)
-        (kept-by (then M S a (entry flex x (asking n b))) (untouched a (then M S a (entry flex x (asking n b))) n s (likewise-refused M S a n b _ _ q)),
-        (λ r. absurd-bool r refl), λ r. absurd-bool r refl)
+        rw (eq-eqb n n refl, ne-eqb (asks a n b .code) 0 c0, ne-eqb (asks a n b .code) 5 c5) (
+          kept-by (then M S a (entry flex x (asking n b))) (untouched a (then M S a (entry flex x (asking n b))) n s (likewise-refused M S a n b _ _ q)),
+          (λ r. absurd-bool r refl),
+          λ r. absurd-bool r refl,
+        )
 
     read-one : (c : Call) → Only n (0 ∷ 5 ∷ []) (sceneOf x a c ∷ []) → Now c
     unfolding entry

@@ -1,18 +1,24 @@
--- partial
+-- That our service meets the three demands. Demand 1: what a call may touch, on any bytes
+pub mod Bounds
+pub mod Tames
+pub mod First
+-- image and table agree with a ledger, and are then what it says
 pub mod Relation
 pub mod Quiet
 pub mod Meets
 pub mod Searches
 pub mod Sectors
 pub mod Marks
+pub mod Picture
+-- every call meets its fate
+pub mod Reads
 pub mod Fills
 pub mod Takes
-pub mod Picture
 pub mod Opens
-pub mod Reads
 pub mod Removes
 pub mod Lists
 pub mod Calls
+-- what calls leave; the census and the ledger; lists of calls
 pub mod Tidy
 pub mod Changes
 pub mod Survey
@@ -21,6 +27,7 @@ pub mod Runs
 pub mod Rests
 pub mod Sent
 pub mod Got
-pub mod Second
 pub mod Stays
+-- demands 2 and 3
+pub mod Second
 pub mod Third

@@ -62,7 +62,6 @@ module _ (M S : ℕ) (z : Shape M S) (ds : List ℕ) (d : Listing S ds) (img tab
   unfolding one placeOf
   open-turn = turned tab n ps open-within
 
-
   abbrev pieces : List Piece
   pieces = inBlock (320 * n) ps
 
@@ -158,10 +157,12 @@ module _ (M S : ℕ) (z : Shape M S) (ds : List ℕ) (d : Listing S ds) (img tab
           let q = seek-found (λ x. named x (part tab (320 * n + 4) 11) 0) (a .slots) s e in
           let hs : s < length (slotsOf ds) = omega (arith, q .low, r .ns) in
           meets-when M S ds img tab n (inUse false tab (placeOf (getD (slotsOf ds) s 0))) (busy false s (a .blocks) 8) 2 _ _ (in-use-is M S z ds d img tab a r false s hs) (omega arith)
-          (λ h. (refl,
-          ap₂ (opened 1) (sym (r .holds s hs .at)) (entry-is M S z ds d img tab a r s hs),
-          open-within M S z ds d img tab a r n hn 1 (getD (slotsOf ds) s 0) (part img (getD (slotsOf ds) s 0) 24) (length-part img (getD (slotsOf ds) s 0) 24),
-          open-read s hs (named-hit ((getD (a .slots) s noFile) .name) (part tab (320 * n + 4) 11) (q .hit) .alive) h))
+          (λ h. (
+            refl,
+            ap₂ (opened 1) (sym (r .holds s hs .at)) (entry-is M S z ds d img tab a r s hs),
+            open-within M S z ds d img tab a r n hn 1 (getD (slotsOf ds) s 0) (part img (getD (slotsOf ds) s 0) 24) (length-part img (getD (slotsOf ds) s 0) 24),
+            open-read s hs (named-hit ((getD (a .slots) s noFile) .name) (part tab (320 * n + 4) 11) (q .hit) .alive) h,
+          ))
 
   -- ---- write
   abbrev nm : List ℕ
@@ -289,8 +290,9 @@ module _ (M S : ℕ) (z : Shape M S) (ds : List ℕ) (d : Listing S ds) (img tab
       go v nowhere nowhere e = (refl, omega arith)
       go v nowhere (slot s) e =
           let q = seek-found (λ x. vacant x 0) (a .slots) s e in
-          let hs : s < length (slotsOf ds) = omega (arith, q .low, r .ns) in
-          (refl,
-          ap₂ (opened 2) (sym (r .holds s hs .at)) (made-entry ((getD (a .slots) s noFile) .at)),
-          open-within M S z ds d img tab a r n hn 2 (getD (slotsOf ds) s 0) ne l24,
-          open-write s hs (vacant-hit ((getD (a .slots) s noFile) .name) (q .hit)) v)
+          let hs : s < length (slotsOf ds) = omega (arith, q .low, r .ns) in (
+            refl,
+            ap₂ (opened 2) (sym (r .holds s hs .at)) (made-entry ((getD (a .slots) s noFile) .at)),
+            open-within M S z ds d img tab a r n hn 2 (getD (slotsOf ds) s 0) ne l24,
+            open-write s hs (vacant-hit ((getD (a .slots) s noFile) .name) (q .hit)) v,
+          )

@@ -1,0 +1,362 @@
+-- Each function stores only where it may: `Tamed`, of every outcome. On an image of the right shape; `asked` needs no such thing.
+use mathlib.Core.Path.{_≡_, refl, sym, _∙_, subst}
+use mathlib.Core.Logic.{_≢_}
+use mathlib.Core.Bool.{Bool, true, false}
+use mathlib.Core.List.{List, [], _∷_}
+use Prim.Native.Nat.{ℕ, _+_, _/_, _%_, _≤_, _<_}
+use native.Mathlib.Omega.{arith}
+use lib.ListN.{length, length-append}
+use lib.Dec.{eqb, ltb}
+use borrow.Author.Tests.{eqb-true, eqb-false}
+use Rattle.rules.specs.Bytes.{pick, within, part, one, two, six, zeros, same}
+use Rattle.rules.specs.Stores.{Store, store, Put, put}
+use Rattle.rules.specs.Image.{lastTrack, perTrack, shapeRight, index, isSector, isData, infoSector, firstFree, lastFree, freeCount}
+use Rattle.rules.specs.Names.{legal}
+use Rattle.rules.specs.Directory.{member, find, vacancy, directoryRight, placeOf, slotBehind, firstSlotOf, firstOfDirectory, attributesAt, startAt, endAt, sizeAt}
+use Rattle.rules.specs.Outcome.{Outcome, done}
+use Rattle.rules.specs.Block.{nameField, indexField, newNameField, bufferField, functionIn, activityIn, driveIn, sizeIn, positionIn, indexIn, nameIn, newNameIn, placeIn, inUse}
+use Rattle.rules.specs.Transfer.{nextToRead, loadPuts, load, reading, slotIn, fresh, linked, takeStores, takePuts, takeFor, takeSector, sent, fill, writing, transfer, shut, mark, closeWriting, close}
+use Rattle.rules.specs.Files.{opened, openRead, newEntry, openWrite, rewind, openDirectory, shown, nextSlot, readSector, writeProtected, deleteProtected, hangStores, gone, remove, delete, rename}
+use Rattle.rules.specs.Call.{served, fits, checked, perform, asked}
+use Rattle.laws.specs.Tests.{clash, either, within-is, pick-all, pick-cases}
+use Rattle.laws.specs.Bytes.{length-one, length-two, length-six, length-part, length-fresh}
+use Rattle.laws.specs.Each.{Each, each-append, member-here, member-there}
+use Rattle.laws.specs.Addresses.{Shaped, shape-is, data-is, data-low}
+use Rattle.laws.specs.Slots.{IsSlot, find-is, vacancy-is, placed-is}
+use Rattle.laws.specs.Fair.{onSlot-all, onNone-all}
+use Rattle.demands.specs.Demands.{names, looks}
+use Rattle.met.specs.Bounds.{touches, spans, Touched, spans-at, lands, lands-each, Lies, in-record, in-slots, in-sector, sectors, Tamed, tame-still, tame-done, tame-then}
+
+-- where the first of two tests fails, the second is what held
+second : (b c : Bool) → pick b true c ≡ true → b ≡ false → c ≡ true
+second b c h e = either b c h (λ d. clash (cc)) (λ d. d)
+
+-- of the codes that are served, 13 is the one that is left
+above : (m c : ℕ) → m ≤ c → c ≢ m → m + 1 ≤ c
+above m c h n = omega arith
+
+beyond : {A : Type 0} (m c : ℕ) → m + 1 ≤ c → c ≤ m → A
+beyond m c h k = absurd (omega arith)
+
+last-code : (c : ℕ) → served c ≡ true → c ≢ 0 → c ≢ 1 → c ≢ 2 → c ≢ 4 → c ≢ 5 → c ≢ 6 → c ≢ 7 → c ≢ 9 → c ≢ 12 → c ≡ 13
+unfolding served
+last-code c h n0 n1 n2 n4 n5 n6 n7 n9 n12 =
+    either (within 0 2 c) _ h
+    (λ e. let w = within-is 0 2 c e in beyond 2 c (above 2 c (above 1 c (above 0 c (w .0) n0) n1) n2) (w .1))
+    (λ k. either (within 4 7 c) _ k
+    (λ e. let w = within-is 4 7 c e in beyond 7 c (above 7 c (above 6 c (above 5 c (above 4 c (w .0) n4) n5) n6) n7) (w .1))
+    (λ l. either (eqb c 9) _ l (λ e. absurd (n9 (eqb-true c 9 e)))
+    (λ e. let w = within-is 12 13 c e in last (above 12 c (w .0) n12) (w .1))))
+  where
+    last : 13 ≤ c → c ≤ 13 → c ≡ 13
+    last a b = omega arith
+
+module _ (img tab : List ℕ) (f b : ℕ) (z : Shaped img) where
+  abbrev M : ℕ
+  M = lastTrack img
+
+  abbrev S : ℕ
+  S = perTrack img
+
+  abbrev T : ℕ → ℕ → Outcome → Type 0
+  T code act o = Tamed img tab f code act o
+
+  abbrev L : Store → Type 0
+  L s = Lies (perTrack img) (sectors img tab f) s
+
+  -- ---- stores of the image
+
+  info-lies : (x y n : ℕ) → L (store infoSector 29 (six x y n))
+  info-lies x y n = in-record (six x y n) (omega (arith, z .shape)) (length-six x y n)
+
+  slot-lies : (slot at n : ℕ) (vs : List ℕ) → IsSlot S slot → length vs ≡ n → slot % 256 ≤ at → at + n ≤ slot % 256 + 24 → L (store (slot / 256) at vs)
+  slot-lies slot at n vs s l h k = in-slots (slot / 256) at vs (s .sector-low) (s .sector-high) (omega (arith, s .low)) (omega (arith, s .high))
+
+  data-lies : (a i n : ℕ) (vs : List ℕ) → isData M S a ≡ true → member (index S a) (sectors img tab f) ≡ true → length vs ≡ n → i + n ≤ 256
+      → L (store (index S a) i vs)
+  data-lies a i n vs d m l h = in-sector (index S a) i vs (data-low M S a (data-is M S a d)) m (omega arith)
+
+  linked-lies : (none : Bool) (a v : ℕ) → (none ≡ false → isData M S a ≡ true) → member (index S a) (sectors img tab f) ≡ true
+      → Each L (linked none (index S a) v)
+  unfolding linked
+  linked-lies none a v d m =
+      pick-cases (Each L) none [] _ (λ e. tt) (λ e. (data-lies a 0 2 (two v) (d e) m (length-two v) (omega arith), tt))
+
+  mark-lies : (slot : ℕ) → IsSlot S slot → Each L (mark slot)
+  unfolding mark
+  mark-lies slot s = (slot-lies slot (slot % 256) 1 (one 255) s (length-one 255) (omega arith) (omega arith), tt)
+
+  -- a new slot's 24 bytes
+  entry-long : length (newEntry tab f) ≡ 24
+  unfolding newEntry part zeros
+  entry-long = refl
+
+  -- the three data sectors
+  first-in : member (index S (firstFree img)) (sectors img tab f) ≡ true
+  first-in = member-here (index S (firstFree img)) _
+
+  last-in : member (index S (lastFree img)) (sectors img tab f) ≡ true
+  last-in = member-there _ _ _ (member-here (index S (lastFree img)) _)
+
+  position-in : member (index S (positionIn tab f)) (sectors img tab f) ≡ true
+  position-in = member-there _ _ _ (member-there _ _ _ (member-here (index S (positionIn tab f)) _))
+
+  -- ---- 0, reading
+
+  -- a byte is given
+  given-tame : (c : ℕ) (ps : List Put) → lands 0 1 ps ≡ true → T 0 1 (done c [] ps)
+  given-tame c ps h = record { byte = λ k. absurd (k refl refl); still = λ k. refl; image = tt; block = λ s. lands-each 0 1 ps h }
+
+  reading-tame : T 0 1 (reading img tab M S f)
+  unfolding reading load loadPuts lands spans touches names within part one two
+  reading-tame =
+      pick-all (T 0 1) (eqb (indexIn tab f) 0) _ _
+      (pick-all (T 0 1) (eqb (nextToRead tab f) 0) _ _ tt
+      (pick-all (T 0 1) (isData M S (nextToRead tab f)) _ _ (given-tame _ _ refl) tt))
+      (given-tame _ _ refl)
+
+  -- ---- 0, writing
+
+  take-lies : (slot former new next last left start size : ℕ) → IsSlot S slot → (eqb former 0 ≡ false → isData M S former ≡ true)
+      → isData M S new ≡ true → member (index S former) (sectors img tab f) ≡ true → member (index S new) (sectors img tab f) ≡ true
+      → Each L (takeStores S slot former new next last left start size)
+  unfolding takeStores
+  take-lies slot former new next last left start size s d e m n = (
+    info-lies next last left,
+    (
+      data-lies new 0 256 (fresh size) e n (length-fresh size) (omega arith),
+      each-append L (linked (eqb former 0) (index S former) new) _ (linked-lies (eqb former 0) former new d m)
+          (slot-lies slot (slot % 256 + 13) 6 _ s (length-six start new size) (omega arith) (omega arith), tt),
+    ),
+  )
+
+  take-touched : (new start size : ℕ) → Each (Touched 0 2) (takePuts new start size)
+  unfolding takePuts fresh zeros lands spans touches names within one two six
+  take-touched new start size = lands-each 0 2 (takePuts new start size) refl
+
+  sector-tame : T 0 2 (takeSector img tab M S f)
+  unfolding takeSector takeFor looks
+  sector-tame =
+      onSlot-all (T 0 2) (slotIn img tab S f) 5 5 _ tt tt
+      (λ slot e. pick-cases (T 0 2) (pick (eqb (positionIn tab f) 0) true (isData M S (positionIn tab f))) _ _
+      (λ d. pick-all (T 0 2) (eqb (freeCount img) 0) _ _ tt
+      (pick-cases (T 0 2) (isData M S (firstFree img)) _ _
+      (λ n. pick-all (T 0 2) (eqb (sizeIn tab f) 65535) _ _ tt
+      (tame-done img tab f 0 2 _ _ refl
+      (take-lies slot _ _ _ _ _ _ _ (placed-is img S _ _ slot e .0 .slot) (second _ _ d) n position-in first-in)
+      (λ s. take-touched _ _ _)))
+      (λ n. tt)))
+      (λ d. tt))
+
+  sent-touched : (i : ℕ) → i < 256 → Each (Touched 0 2) (sent i b)
+  unfolding sent lands spans touches names within one
+  sent-touched i h = (
+    record { at = λ x k l. spans-at 0 2 bufferField 256 x refl (omega arith) (omega (arith, length-one b)) },
+    lands-each 0 2 (put indexField (one ((i + 1) % 256)) ∷ []) refl,
+  )
+
+  -- a sector is stored: bytes 4-255 of it
+  buffer-lies : (vs : List ℕ) → isData M S (positionIn tab f) ≡ true → length vs ≡ 252 → Each L (store (index S (positionIn tab f)) 4 vs ∷ [])
+  buffer-lies vs d l = (data-lies (positionIn tab f) 4 252 vs d position-in l (omega arith), tt)
+
+  writing-tame : T 0 2 (writing img tab M S f b)
+  unfolding writing fill looks
+  writing-tame =
+      pick-all (T 0 2) (eqb (indexIn tab f) 0) _ _
+      (tame-then img tab f 0 2 (takeSector img tab M S f) (sent 4 b) sector-tame (λ s. sent-touched 4 (omega arith)))
+      (pick-all (T 0 2) (eqb (indexIn tab f) 255) _ _
+      (pick-cases (T 0 2) (isData M S (positionIn tab f)) _ _
+      (λ d. tame-done img tab f 0 2 _ _ refl
+      (buffer-lies _ d (length-append (part tab (f + (bufferField + 4)) 251) (one b) ∙ omega (arith, length-part tab (f + (bufferField + 4)) 251, length-one b)))
+      (λ s. sent-touched 255 (omega arith)))
+      (λ d. tt))
+      (tame-done img tab f 0 2 [] _ refl tt (λ s. sent-touched (indexIn tab f) (s .at (f + indexField)))))
+
+  -- ---- 4 close
+
+  shut-lands : (act : ℕ) → lands 4 act shut ≡ true
+  unfolding shut lands spans touches names within one
+  shut-lands act = refl
+
+  close-writing-tame : T 4 2 (closeWriting img tab M S f)
+  unfolding closeWriting looks
+  close-writing-tame =
+      pick-all (T 4 2) (eqb (positionIn tab f) 0) _ _
+      (onSlot-all (T 4 2) (slotIn img tab S f) 5 5 _ tt tt (λ slot e. stored-shut (mark slot) (mark-lies slot (placed-is img S _ _ slot e .0 .slot))))
+      (pick-all (T 4 2) (eqb (indexIn tab f) 0) _ _ (tame-still img tab f 4 2 shut (shut-lands 2))
+      (pick-cases (T 4 2) (isData M S (positionIn tab f)) _ _ (λ d. stored-shut _ (buffer-lies _ d (length-part tab _ 252))) (λ d. tt)))
+    where
+      stored-shut : (ss : List Store) → Each L ss → T 4 2 (done 0 ss shut)
+      stored-shut ss l = tame-done img tab f 4 2 ss shut refl l (λ s. lands-each 4 2 shut (shut-lands 2))
+
+  -- ---- what is hung on the free chain
+
+  hang-lies : (slot count first start end size : ℕ) → IsSlot S slot → (eqb count 0 ≡ false → isData M S (lastFree img) ≡ true)
+      → Each L (hangStores S slot count first (lastFree img) start end size)
+  unfolding hangStores
+  hang-lies slot count first start end size s d =
+      each-append L (linked (eqb count 0) (index S (lastFree img)) start) _ (linked-lies (eqb count 0) (lastFree img) start d last-in)
+      (info-lies _ _ _, mark-lies slot s)
+
+  -- ---- the functions, by the code that they have in `perform`
+
+  act-is : activityIn tab f ≢ 1 → fits 0 (activityIn tab f) ≡ true → activityIn tab f ≡ 2
+  unfolding fits
+  act-is n h = omega (arith, within-is 1 2 (activityIn tab f) h)
+
+  transfer-tame : fits 0 (activityIn tab f) ≡ true → T 0 (activityIn tab f) (transfer img tab M S f b)
+  unfolding transfer
+  transfer-tame h =
+      pick-cases (T 0 (activityIn tab f)) (eqb (activityIn tab f) 1) _ _
+      (λ e. subst (λ (a : ℕ). T 0 a (reading img tab M S f)) (sym (eqb-true (activityIn tab f) 1 e)) reading-tame)
+      (λ e. subst (λ (a : ℕ). T 0 a (writing img tab M S f b)) (sym (act-is (eqb-false (activityIn tab f) 1 e) h)) writing-tame)
+
+  close-tame : T 4 (activityIn tab f) (close img tab M S f)
+  unfolding close
+  close-tame =
+      pick-cases (T 4 (activityIn tab f)) (eqb (activityIn tab f) 2) _ _
+      (λ e. subst (λ (a : ℕ). T 4 a (closeWriting img tab M S f)) (sym (eqb-true (activityIn tab f) 2 e)) close-writing-tame)
+      (λ e. tame-still img tab f 4 (activityIn tab f) shut (shut-lands (activityIn tab f)))
+
+  module _ (act : ℕ) where
+    open-read-tame : T 1 act (openRead img tab S f)
+    unfolding openRead opened placeOf lands spans touches names within member part zeros one
+    open-read-tame =
+        pick-all (T 1 act) (legal tab (f + nameField)) _ _
+        (onSlot-all (T 1 act) (find img S (nameIn tab f)) 5 4 _ tt tt
+        (λ slot e. pick-all (T 1 act) (inUse false tab (placeOf slot)) _ _ tt (tame-still img tab f 1 act _ refl)))
+        tt
+
+    new-lands : (slot : ℕ) → lands 2 act (opened 2 slot (newEntry tab f)) ≡ true
+    unfolding opened placeOf newEntry lands spans touches names within member part zeros one
+    new-lands slot = refl
+
+    open-write-tame : T 2 act (openWrite img tab S f)
+    unfolding openWrite looks member
+    open-write-tame =
+        pick-all (T 2 act) (legal tab (f + nameField)) _ _
+        (onNone-all (T 2 act) (find img S (nameIn tab f)) 5 3 _ tt tt
+        (onSlot-all (T 2 act) (vacancy img S) 5 6 _ tt tt
+        (λ slot e. tame-done img tab f 2 act _ _ refl
+        (slot-lies slot (slot % 256) 24 (newEntry tab f) (vacancy-is img S slot e .0 .slot) entry-long (omega arith) (omega arith), tt)
+        (λ s. lands-each 2 act (opened 2 slot (newEntry tab f)) (new-lands slot)))))
+        tt
+
+    rewind-tame : T 5 act rewind
+    unfolding rewind lands spans touches names within member one two
+    rewind-tame = tame-still img tab f 5 act _ refl
+
+    open-directory-tame : T 6 act openDirectory
+    unfolding openDirectory lands spans touches names within member one zeros
+    open-directory-tame = tame-still img tab f 6 act _ refl
+
+    shown-tame : (slot : ℕ) → T 7 act (shown img slot)
+    unfolding shown placeOf lands spans touches names within member part
+    shown-tame slot = tame-still img tab f 7 act _ refl
+
+    next-slot-tame : T 7 act (nextSlot img tab S f)
+    unfolding nextSlot
+    next-slot-tame =
+        pick-all (T 7 act) (same (placeIn tab f) (zeros 3)) _ _
+        (pick-all (T 7 act) (directoryRight img S) _ _ (shown-tame (firstSlotOf firstOfDirectory)) tt)
+        (onSlot-all (T 7 act) (slotIn img tab S f) 5 5 _ tt tt
+        (λ slot e. onSlot-all (T 7 act) (slotBehind img S slot) 5 8 _ tt tt (λ next d. shown-tame next)))
+
+    read-sector-tame : T 9 act (readSector img tab M S f)
+    unfolding readSector lands spans touches names within part
+    read-sector-tame = pick-all (T 9 act) (isSector M S (positionIn tab f)) _ _ (tame-still img tab f 9 act _ refl) tt
+
+    gone-lands : (slot : ℕ) → lands 12 act (gone img slot) ≡ true
+    unfolding gone lands spans touches names within part one
+    gone-lands slot = refl
+
+    removed-tame : (ss : List Store) (slot : ℕ) → Each L ss → T 12 act (done 0 ss (gone img slot))
+    unfolding looks member
+    removed-tame ss slot l = tame-done img tab f 12 act ss (gone img slot) refl l (λ s. lands-each 12 act (gone img slot) (gone-lands slot))
+
+    remove-tame : (slot : ℕ) → IsSlot S slot → T 12 act (remove img M S slot)
+    unfolding remove
+    remove-tame slot s =
+        pick-all (T 12 act) (eqb (sizeAt img slot) 0) _ _ (removed-tame _ slot (mark-lies slot s))
+        (pick-all (T 12 act) (isData M S (startAt img slot)) _ _
+        (pick-all (T 12 act) (isData M S (endAt img slot)) _ _
+        (pick-cases (T 12 act) (pick (eqb (freeCount img) 0) true (isData M S (lastFree img))) _ _
+        (λ d. pick-all (T 12 act) (ltb 65535 (freeCount img + sizeAt img slot)) _ _ tt
+        (removed-tame _ slot (hang-lies slot _ _ _ _ _ s (second _ _ d))))
+        (λ d. tt))
+        tt)
+        tt)
+
+    delete-tame : T 12 act (delete img tab M S f)
+    unfolding delete
+    delete-tame =
+        pick-all (T 12 act) (legal tab (f + nameField)) _ _
+        (onSlot-all (T 12 act) (find img S (nameIn tab f)) 5 4 _ tt tt
+        (λ slot e. pick-all (T 12 act) (inUse true tab (placeOf slot)) _ _ tt
+        (pick-all (T 12 act) (deleteProtected (attributesAt img slot)) _ _ tt
+        (pick-all (T 12 act) (writeProtected (attributesAt img slot)) _ _ tt
+        (remove-tame slot (find-is img S _ slot e .0 .slot))))))
+        tt
+
+    renamed-lands : lands 13 act (put nameField (newNameIn tab f) ∷ []) ≡ true
+    unfolding lands spans touches names within part
+    renamed-lands = refl
+
+    rename-tame : T 13 act (rename img tab S f)
+    unfolding rename looks member
+    rename-tame =
+        pick-all (T 13 act) (legal tab (f + nameField)) _ _
+        (pick-all (T 13 act) (legal tab (f + newNameField)) _ _
+        (onSlot-all (T 13 act) (find img S (nameIn tab f)) 5 4 _ tt tt
+        (λ slot e. pick-all (T 13 act) (inUse true tab (placeOf slot)) _ _ tt
+        (pick-all (T 13 act) (writeProtected (attributesAt img slot)) _ _ tt
+        (onNone-all (T 13 act) (find img S (newNameIn tab f)) 5 3 _ tt tt
+        (tame-done img tab f 13 act _ _ refl
+        (slot-lies slot (slot % 256) 11 _ (find-is img S _ slot e .0 .slot) (length-part tab _ 11) (omega arith) (omega arith), tt)
+        (λ s. lands-each 13 act (put nameField (newNameIn tab f) ∷ []) renamed-lands))))))
+        tt)
+        tt
+
+  -- ---- any function
+
+  abbrev code : ℕ
+  code = functionIn tab f
+
+  abbrev act : ℕ
+  act = activityIn tab f
+
+  -- the outcome of a code where the block has it, else what follows
+  on-code : (c : ℕ) (x y : Outcome) → (fits c act ≡ true → T c act x) → fits code act ≡ true → (code ≢ c → T code act y) → T code act (pick (eqb code c) x y)
+  on-code c x y t h k =
+      pick-cases (T code act) (eqb code c) x y
+      (λ e. let q = eqb-true code c e in subst (λ (d : ℕ). T d act x) (sym q) (t (subst (λ (d : ℕ). fits d act ≡ true) q h)))
+      (λ e. k (eqb-false code c e))
+
+  perform-tame : served code ≡ true → fits code act ≡ true → T code act (perform img tab M S f b)
+  unfolding perform
+  perform-tame v h =
+      on-code 0 _ _ transfer-tame h
+      (λ n0. on-code 1 _ _ (λ k. open-read-tame act) h
+      (λ n1. on-code 2 _ _ (λ k. open-write-tame act) h
+      (λ n2. on-code 4 _ _ (λ k. close-tame) h
+      (λ n4. on-code 5 _ _ (λ k. rewind-tame act) h
+      (λ n5. on-code 6 _ _ (λ k. open-directory-tame act) h
+      (λ n6. on-code 7 _ _ (λ k. next-slot-tame act) h
+      (λ n7. on-code 9 _ _ (λ k. read-sector-tame act) h
+      (λ n9. on-code 12 _ _ (λ k. delete-tame act) h
+      (λ n12. subst (λ (c : ℕ). T c act (rename img tab S f)) (sym (last-code code v n0 n1 n2 n4 n5 n6 n7 n9 n12)) (rename-tame act))))))))))
+
+-- what a call may come to: any image, any table
+pub asked-tame : (img tab : List ℕ) (f b : ℕ) → Tamed img tab f (functionIn tab f) (activityIn tab f) (asked img tab f b)
+unfolding asked checked
+asked-tame img tab f b =
+    pick-cases A (shapeRight img) _ _
+    (λ z. pick-cases A (served (functionIn tab f)) _ _
+    (λ v. pick-all A (eqb (driveIn tab f) 0) _ _
+    (pick-cases A (fits (functionIn tab f) (activityIn tab f)) _ _ (λ h. perform-tame img tab f b (shape-is img z) v h) (λ h. tt))
+    tt)
+    (λ v. tt))
+    (λ z. tt)
+  where
+    A : Outcome → Type 0
+    A o = Tamed img tab f (functionIn tab f) (activityIn tab f) o
