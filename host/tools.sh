@@ -112,13 +112,13 @@ needed() {
 
 # progress COUNT: of what 'rt check' says, a line for each crate that it proved, and all that it said of one that it did not
 progress() {
-    local line name number=0 said=()
+    local line name took number=0 said=()
     while IFS= read -r line; do
         case $line in
         'rt: ok, '*) said=() ;;
         'rt: '*' proved ('*)
-            number=$((number + 1)) name=${line#rt: }
-            [[ $line == *'(unchanged '* ]] || echo "[$number/$1] ${name%% *} $(sed 's/.*(\(.*\))$/\1/' <<<"$line")" >&2
+            number=$((number + 1)) name=${line#rt: } took=${line##*\(}
+            [[ $took == unchanged* ]] || echo "[$number/$1] ${name%% *} ${took%)}" >&2
             said=()
             ;;
         'rt: '*' NOT PROVED'*)
