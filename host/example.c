@@ -1,5 +1,5 @@
 /*
- * A C host: makes the five-sector diskette of document 01, writes a file, reads it back, shows what a refusal looks like, and
+ * A C host: makes the smallest diskette, of five data sectors, writes a file, reads it back, shows what a refusal looks like, and
  * takes the census. It checks what it gets and ends with status 0 if all is as promised.
  *
  * cc -I host host/example.c target/staticlib/libflex.a -o example
@@ -20,7 +20,7 @@ static void fail(const char *what) {
     exit(1);
 }
 
-/* All sectors of track 1 in the free chain, one directory sector at (0, 5): document 01, "Image". */
+/* All sectors of track 1 in the free chain, one directory sector at (0, 5): docs/HOST.md, "From a blank image to a census". */
 static void make_blank(void) {
     uint8_t *information = image + 2 * 256;
     int s;
@@ -127,6 +127,7 @@ int main(void) {
         "22:41 NORTH AMPLIFIER 14 LEVEL LOW\n22:41 NORTH AMPLIFIER 15 NO SIGNAL\n22:58 NORTH AMPLIFIER 14 SUPPLY 41 VOLTS\n"
         "23:07 FEEDER 2 OFF BY HAND\n02:15 CREW AT AMPLIFIER 14\n02:52 FEEDER 2 ON\n"
         "02:53 NORTH AMPLIFIER 14 LEVEL NORMAL\n02:53 NORTH AMPLIFIER 15 LEVEL NORMAL\n05:02 MAINS FAILED\n05:06 MAINS BACK\n";
+    printf("flex.h %s (%d)\n", FLEX_VERSION_TEXT, FLEX_VERSION);
     make_blank();
     write_file(text);
     read_file(text);

@@ -3,7 +3,7 @@
  *
  * The service works on two lent buffers, the image of a diskette and a table of eight control blocks, and keeps no state of
  * its own. What each entry answers and what it leaves in every byte of the lent buffers is proved for all inputs, refused
- * calls too; document 01 says it in words.
+ * calls too; docs/RULES.md says it in words.
  *
  * What the host owes:
  *   - each pointer leads to as many bytes as the length beside it says, and is not NULL even where that length is 0;
@@ -15,6 +15,7 @@
  * (13) nothing at all. A refused flex_preset, flex_extension or flex_error_text changes nothing. flex_census says it below.
  *
  * Link: cc -I host program.c target/staticlib/libflex.a
+ * A census takes less than 12,000 bytes of stack, a call less than 1,000. docs/HOST.md has all that a host needs.
  */
 #ifndef FLEX_H
 #define FLEX_H
@@ -25,6 +26,10 @@
 #ifdef __cplusplus
 extern "C" {
 #endif
+
+/* The version of this header: 10000 * major + 100 * minor + patch, and as text. docs/HOST.md says what each part means. */
+#define FLEX_VERSION 100
+#define FLEX_VERSION_TEXT "0.1.0"
 
 /* The table: eight control blocks of 320 bytes. All zero means that all are closed. */
 #define FLEX_BLOCKS 8

@@ -2,7 +2,7 @@
 # old, and builds and runs x86-64 programs. On an Arm machine the archive is x86-64 all the same: there the programs are
 # built by a cross compiler and run under an emulator.
 #
-# It needs bash. Nothing here writes to standard output, which belongs to the programs.
+# It needs bash with pipefail. Nothing here writes to standard output, which belongs to the programs.
 
 root=$(cd "$(dirname "${BASH_SOURCE[0]}")/.." && pwd)
 archive=$root/target/staticlib/libflex.a
@@ -96,14 +96,74 @@ find_tools() {
     esac
 }
 
-# The archive is made anew when a source is newer.
+# needed CRATE: the crates that it is built on, by crates.txt, and itself last
+needed() {
+    awk -v top="$1" '
+        function visit(name,    i, n, names) {
+            if (seen[name]++ || !(name in uses)) return
+            n = split(uses[name], names, " ")
+            for (i = 1; i <= n; i++) visit(names[i])
+            print name
+        }
+        { sub(/#.*/, "") }
+        /:/ { name = $0; sub(/:.*/, "", name); gsub(/[ \t]/, "", name); sub(/[^:]*:/, ""); uses[name] = $0 }
+        END { visit(top) }' "$root/crates.txt"
+}
+
+# progress COUNT: of what 'rt check' says, a line for each crate that it proved, and all that it said of one that it did not
+progress() {
+    local line name took number=0 said=()
+    while IFS= read -r line; do
+        case $line in
+        'rt: ok, '*) said=() ;;
+        'rt: '*' proved ('*)
+            number=$((number + 1)) name=${line#rt: } took=${line##*\(}
+            [[ $took == unchanged* ]] || echo "[$number/$1] ${name%% *} ${took%)}" >&2
+            said=()
+            ;;
+        'rt: '*' NOT PROVED'*)
+            number=$((number + 1))
+            printf '%s\n' "${said[@]}" "$line" >&2
+            said=()
+            ;;
+        *) said+=("$line") ;;
+        esac
+    done
+    [ ${#said[@]} -eq 0 ] || printf '%s\n' "${said[@]}" >&2
+}
+
+# How many crates to prove at a time. rt goes layer by layer and waits for the slowest crate of each, so that all cores are
+# busy only with more crates than cores; each may need a gigabyte.
+jobs_here() {
+    local jobs room
+    jobs=$((2 * $(nproc)))
+    room=$(awk '/^MemAvailable:/ { print int($2 / 1048576) }' /proc/meminfo)
+    [ "$jobs" -le "${room:-1}" ] || jobs=$room
+    [ "${jobs:-0}" -ge 1 ] || jobs=1
+    echo "$jobs"
+}
+
+# The archive is made anew when a source is newer. Only 'rt check' proves crates beside each other.
 make_archive() {
     if [ -f "$archive" ] && [ -z "$(find "$root/crates" "$root/crates.txt" -newer "$archive" -print -quit)" ]; then
         return
     fi
     command -v rt >/dev/null || die "the Rattle kit's command rt is not on the PATH, and it makes target/staticlib/libflex.a"
-    say "proving the service and making libflex.a (minutes, the first time)"
-    (cd "$root" && rt staticlib flex) >&2 || die "rt staticlib flex failed"
+    local crates count log=$root/target/log/archive jobs=${RT_JOBS:-$(jobs_here)} began
+    mapfile -t crates < <(needed flex)
+    count=${#crates[@]}
+    mkdir -p "$root/target/log"
+    say "proving what is not proved yet of the service's $count crates, $jobs at a time (all of them: some 4 minutes on two idle cores);"
+    say "all that rt says goes to target/log/archive"
+    if ! (cd "$root" && RT_JOBS=$jobs rt check "${crates[@]:0:count-1}" 2>&1) | tee "$log" | progress "$count"; then
+        die "not proved; target/log/archive has all that rt said"
+    fi
+    began=$SECONDS
+    if ! (cd "$root" && rt staticlib flex) >"$log.flex" 2>&1; then
+        cat "$log.flex" >&2
+        die "rt staticlib flex failed"
+    fi
+    echo "[$count/$count] flex $((SECONDS - began)) s" >&2
 }
 
 # cargo_do COMMAND ARGUMENT..: cargo on the workspace, with all output below target/ and no network

@@ -106,9 +106,9 @@ product-fits img M S p = record { fits = omega (arith, few img M S p) }
 pub twice-fits : (img : List ℕ) (M S : ℕ) → Shaping img M S → Fits w64 (2 * (M * S))
 twice-fits img M S p = record { fits = omega (arith, few img M S p) }
 
-pub numbers-ready : (img xs ys : List ℕ) (M S : ℕ) → Shaping img M S → length xs ≡ 2 * (M * S) → length ys ≡ 2 * (M * S)
-    → (shapeRight img ≡ true) × (M * S ≡ lastTrack img * perTrack img) × (M * S ≤ 2844) × (length xs ≡ 2 * (M * S)) × (length ys ≡ 2 * (M * S))
-numbers-ready img xs ys M S p h k = (p .0, ap₂ (λ (a b : ℕ). a * b) (p .1) (p .2), few img M S p, h, k)
+pub numbers-ready : (img xs ys : List ℕ) (M S : ℕ) {k : ℕ} → Shaping img M S → length xs ≡ 2 * (M * S) → length ys ≡ 2 * (M * S) → M * S ≤ k
+    → (shapeRight img ≡ true) × (M * S ≡ lastTrack img * perTrack img) × (M * S ≤ k) × (length xs ≡ 2 * (M * S)) × (length ys ≡ 2 * (M * S))
+numbers-ready img xs ys M S p h l m = (p .0, ap₂ (λ (a b : ℕ). a * b) (p .1) (p .2), m, h, l)
 
 pub host-wrong : (img xs ys : List ℕ) {z : Shaped} → z ≡ shapeOf img → z ≡ Wrong → survey 41 xs ys ≡ hostCensus img xs ys
 unfolding hostCensus
@@ -133,17 +133,17 @@ host-both img xs ys us vs {e} {us′} {vs′} {xs′} {ys′} s k m l₁ l₂ p�
     )
     (ap bytes-of q ∙ concluded-bytes img (perTrack img) (lastTrack img * perTrack img) (fault img (lastTrack img) (perTrack img)))
 
--- ---- room for the numbers
+-- ---- room for the numbers, k of them
 
-pub room : (n : ℕ) (us : List ℕ) → 2844 ≡ length us → n ≤ 2844 → n ≡ length (take n us)
-room n us l h = sym (length-take-le n us (omega arith))
+pub room : (k n : ℕ) (us : List ℕ) → k ≡ length us → n ≤ k → n ≡ length (take n us)
+room k n us l h = sym (length-take-le n us (omega arith))
 
-pub ready : (img xs ys us vs : List ℕ) (n : ℕ)
-    → (shapeRight img ≡ true) × (n ≡ lastTrack img * perTrack img) × (n ≤ 2844) × (length xs ≡ 2 * n) × (length ys ≡ 2 * n)
-    → 2844 ≡ length us → 2844 ≡ length vs
+pub ready : (img xs ys us vs : List ℕ) (k n : ℕ)
+    → (shapeRight img ≡ true) × (n ≡ lastTrack img * perTrack img) × (n ≤ k) × (length xs ≡ 2 * n) × (length ys ≡ 2 * n)
+    → k ≡ length us → k ≡ length vs
     → (shapeRight img ≡ true) × (length (take n us) ≡ lastTrack img * perTrack img) × (length (take n vs) ≡ length (take n us))
     × (length xs ≡ 2 * length (take n us)) × (length ys ≡ 2 * length (take n us))
-ready img xs ys us vs n p l m =
-    let a : n ≡ length (take n us) = room n us l (p .2) in
-    let b : n ≡ length (take n vs) = room n vs m (p .2) in
+ready img xs ys us vs k n p l m =
+    let a : n ≡ length (take n us) = room k n us l (p .2) in
+    let b : n ≡ length (take n vs) = room k n vs m (p .2) in
     (p .0, sym a ∙ p .1, sym b ∙ a, p .3 ∙ ap (λ (j : ℕ). 2 * j) a, p .4 ∙ ap (λ (j : ℕ). 2 * j) a)

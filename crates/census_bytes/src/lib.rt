@@ -12,8 +12,15 @@ use census::census;
 use disk::Shaped;
 use disk::shape_of;
 
-// Room for an entry of each data sector of the largest diskette, 79 tracks of 36.
-fn blank() -> [u16; 2844]
+// Room for an entry of each data sector of a diskette that has at most 1,000. It is cleared whole, and should cost a small one little.
+fn few() -> [u16; 1000]
+    ensures { λ r. ⌜ 1000 ≡ length r ⌝ }
+{
+    [0; 1000]
+}
+
+// The same for the largest, 79 tracks of 36.
+fn most() -> [u16; 2844]
     ensures { λ r. ⌜ 2844 ≡ length r ⌝ }
 {
     [0; 2844]
@@ -47,13 +54,23 @@ fn on_numbers(
     e
 }
 
-// The same for an image of n data sectors.
-fn by_numbers(image: &[u8], sectors: &mut [u8], owners: &mut [u8], n: usize) -> u8
+// The same for an image of n data sectors, on a small diskette.
+fn by_few(image: &[u8], sectors: &mut [u8], owners: &mut [u8], n: usize) -> u8
+    requires { ⌜ (shapeRight (now image) ≡ true) × (n ≡ lastTrack (now image) * perTrack (now image)) × (n ≤ 1000) × (length (now sectors) ≡ 2 * n) × (length (now owners) ≡ 2 * n) ⌝ }
+    ensures { λ r. ⌜ survey r (now (sectors .exit)) (now (owners .exit)) ≡ hostCensus (now (image .entry)) (now (sectors .entry)) (now (owners .entry)) ⌝ }
+{
+    let mut listed = few();
+    let mut held = few();
+    on_numbers(image, sectors, owners, &mut listed[..n], &mut held[..n])
+}
+
+// The same on any.
+fn by_most(image: &[u8], sectors: &mut [u8], owners: &mut [u8], n: usize) -> u8
     requires { ⌜ (shapeRight (now image) ≡ true) × (n ≡ lastTrack (now image) * perTrack (now image)) × (n ≤ 2844) × (length (now sectors) ≡ 2 * n) × (length (now owners) ≡ 2 * n) ⌝ }
     ensures { λ r. ⌜ survey r (now (sectors .exit)) (now (owners .exit)) ≡ hostCensus (now (image .entry)) (now (sectors .entry)) (now (owners .entry)) ⌝ }
 {
-    let mut listed = blank();
-    let mut held = blank();
+    let mut listed = most();
+    let mut held = most();
     on_numbers(image, sectors, owners, &mut listed[..n], &mut held[..n])
 }
 
@@ -69,7 +86,10 @@ fn on_shape(image: &[u8], sectors: &mut [u8], owners: &mut [u8], last: u8, per: 
     if owners.len() != 2 * n {
         return 40;
     }
-    by_numbers(image, sectors, owners, n)
+    if n <= 1000 {
+        return by_few(image, sectors, owners, n);
+    }
+    by_most(image, sectors, owners, n)
 }
 
 // The census for a host: the answer, and both outputs as bytes.
