@@ -1,0 +1,3 @@
+-- Calls, services, and the log that calls leave.
+pub mod Ledger
+pub mod Service

@@ -1,0 +1,1 @@
+// A service, as the demands speak of it: specs only.
