@@ -20,7 +20,7 @@ use Rattle.flex.proofs.flex_error_text.Kinds as text
 use Rattle.flex.proofs.flex_error_text.Reads as textReads
 
 -- for any arguments, answer and exit, what is learnt gives what is promised
-abbrev Gives : (n : ℕ) (ps : List (PK n)) (r : RK n) → Out n ps r → Out n ps r → Type 0
+abbrev pub Gives : (n : ℕ) (ps : List (PK n)) (r : RK n) → Out n ps r → Out n ps r → Type 0
 Gives n ps r Learnt Promise = (κs : Lfts n) (a : Dens κs ps) (z : resT r κs .Denot) (s : AtExit (endedOf n ps r) κs) → Learnt κs a z s → Promise κs a z s
 
 pub preset-ensured : Gives 1 preset.ps preset.r presetReads.Learnt (λ κs a r s. PresetPromise (now (a .0)) (a .1 .0) (a .1 .1 .0) (a .1 .1 .1 .0) r (now (s .0)))
