@@ -1,20 +1,20 @@
 -- The numbers of an accepted census fit two bytes.
-use mathlib.Core.Path.{_≡_, refl, ap, _∙_, sym}
-use mathlib.Core.Logic.{_⊎_, inl, inr}
-use mathlib.Core.List.{List, [], _∷_, _++_}
-use Prim.Native.Nat.{ℕ, zero, suc, _+_, _-_, _*_, _≤_, _<_}
+use mathlib.Core.Path.{_≡_, refl, sym, ap}
+use mathlib.Core.Logic.{inl, inr}
+use mathlib.Core.List.{List, [], _∷_}
+use Prim.Native.Nat.{ℕ, zero, suc, _+_, _*_, _≤_, _<_}
 use native.Mathlib.Omega.{arith}
-use lib.ListN.{length, getD, length-append, replicate}
-use Rattle.rules.specs.Image.{lastTrack, perTrack, linkOf}
+use lib.ListN.{length, getD, length-append}
+use Rattle.rules.specs.Bytes.{zeros}
+use Rattle.rules.specs.Image.{lastTrack, perTrack}
 use Rattle.rules.specs.Directory.{mostOfDirectory, firstOfDirectory, nextOf, sectorsFrom, directory, slotsAt, firstSlotOf, slotsOf, slots}
 use Rattle.rules.specs.Census.{listed, owners}
 use Rattle.laws.specs.Each.{Each, each-so}
-use Rattle.laws.specs.Addresses.{Shape, Shaped, data-few}
+use Rattle.laws.specs.Addresses.{Shaped, data-few}
 use Rattle.laws.specs.Slots.{onNext-all}
 use Rattle.laws.specs.Bytes.{length-zeros}
 use Rattle.laws.specs.Surveys.{SaneImage, dataSectors, listed-below, census-accepts}
 use Rattle.census_laws.specs.Accepted.{Owner, accepted}
-use Rattle.rules.specs.Bytes.{zeros}
 
 -- ---- how many slots there are
 

@@ -4,7 +4,6 @@ use mathlib.Core.List.{List, [], _∷_}
 use Prim.Native.Nat.{ℕ, _<_}
 use native.Mathlib.Omega.{arith}
 use lib.ListN.{length}
-use Rattle.rules.specs.Stores.{stored, puts}
 use Rattle.rules.specs.Outcome.{Out, out, onImage, onBlock}
 use Rattle.rules.specs.Block.{blockAt, preset, extension}
 use Rattle.rules.specs.Call.{call}
@@ -53,6 +52,12 @@ held-next x h (asking n b) k =
       image = held-as (x .img) _ (h .image) (length-stored (onImage (call (x .img) (x .tab) n b)) (x .img)) (l .image-small g);
       table = held-as (x .tab) _ (h .table) (length-puts (onBlock (call (x .img) (x .tab) n b)) (x .tab) (blockAt n)) (l .table-small g);
     }
+
+-- so it is after any calls
+pub held-run : (x : Machine) → HeldMachine x → (cs : List Call) → Each Made cs → HeldMachine (run flex x cs)
+unfolding run
+held-run x h [] k = h
+held-run x h (c ∷ cs) k = held-run (next flex x c) (held-next x h c (k .0)) cs (k .1)
 
 module _ (σ : Service) (s : Same σ flex) where
   outcome-same : (x : Machine) → HeldMachine x → (c : Call) → Made c → outcome σ x c ≡ outcome flex x c

@@ -1,16 +1,15 @@
 -- THE THEOREM: the promises give the service. Each promise by itself first, then all five.
-use mathlib.Core.Path.{_≡_, refl, sym, ap, ap₂, _∙_}
+use mathlib.Core.Path.{_≡_, refl, ap, ap₂, _∙_}
 use mathlib.Core.Bool.{Bool, true, false}
-use mathlib.Core.List.{List, []}
-use Prim.Native.Nat.{ℕ, _+_, _*_, _/_, _%_, _<_}
+use mathlib.Core.List.{List}
+use Prim.Native.Nat.{ℕ, _*_}
 use native.Mathlib.Omega.{arith}
-use lib.ListN.{length, replicate}
+use lib.ListN.{length}
 use lib.Dec.{eqb}
 use borrow.Author.Tests.{eqb-true, eqb-false, eq-eqb, ne-eqb}
 use Rattle.rules.specs.Bytes.{pick}
 use Rattle.rules.specs.Image.{shapeRight, lastTrack, perTrack}
-use Rattle.rules.specs.Outcome.{Out, out, given}
-use Rattle.rules.specs.Call.{call}
+use Rattle.rules.specs.Outcome.{out}
 use Rattle.rules.specs.Census.{Survey, survey, listed, owners, fault, concluded, census}
 use Rattle.rules.specs.Text.{told}
 use Rattle.rules.specs.Host.{asBytes, hostConcluded, hostCensus}
@@ -18,7 +17,7 @@ use Rattle.laws.specs.Facts.{Given}
 use Rattle.laws.specs.Addresses.{Shaped, shape-is}
 use Rattle.laws.specs.Effects.{call-lawful}
 use Rattle.laws.specs.Surveys.{dataSectors, fault-is, length-bytes}
-use Rattle.flex.specs.Promised.{PresetPromise, ExtensionPromise, CallPromise, CensusPromise, TextPromise}
+use Rattle.flex.specs.Promised.{PresetPromise, ExtensionPromise, CallPromise, CensusPromise}
 use Rattle.stated.specs.Service.{flex}
 use Rattle.served.specs.Entries.{Held, Output, words, apart, readBack, Served}
 use Rattle.served.specs.Words.{unpacked, words-back, words-full, small-bytes}

@@ -3,7 +3,7 @@ use mathlib.Core.Path.{_≡_, refl, ap, ap₂, _∙_}
 use mathlib.Core.List.{List}
 use Prim.Native.Nat.{ℕ, _<_}
 use Rattle.rules.specs.Stores.{stored, puts}
-use Rattle.rules.specs.Outcome.{Effect, answer, given, onImage, onBlock}
+use Rattle.rules.specs.Outcome.{answer, given, onImage, onBlock}
 use Rattle.rules.specs.Block.{blockAt, preset, extension}
 use Rattle.rules.specs.Call.{call}
 use Rattle.rules.specs.Census.{Survey, survey}
