@@ -1,9 +1,9 @@
 -- Numbers as bytes, two each, and read back.
 use mathlib.Core.Path.{_≡_, refl, sym, ap, ap₂, _∙_}
-use mathlib.Core.List.{List, [], _∷_}
-use Prim.Native.Nat.{ℕ, zero, suc, _*_, _/_, _%_, _<_}
+use mathlib.Core.List.{List, [], _∷_, _++_}
+use Prim.Native.Nat.{ℕ, zero, suc, _+_, _*_, _/_, _%_, _<_}
 use native.Mathlib.Omega.{arith}
-use lib.ListN.{replicate}
+use lib.ListN.{length, replicate}
 use Rattle.rules.specs.Bytes.{two}
 use Rattle.rules.specs.Host.{packed, asBytes}
 use Rattle.laws.specs.Bytes.{two-back}
@@ -24,6 +24,28 @@ words-back (x ∷ xs) h = ap₂ (λ (v : ℕ) (l : List ℕ). v ∷ l) (two-back
 -- so no two lists have the same bytes
 pub bytes-injective : (xs ys : List ℕ) → Each (λ (x : ℕ). x < 65536) xs → Each (λ (x : ℕ). x < 65536) ys → asBytes xs ≡ asBytes ys → xs ≡ ys
 bytes-injective xs ys h k e = sym (words-back xs h) ∙ ap words e ∙ words-back ys k
+
+-- and any bytes of even length are such: nothing is lost in reading them
+pub words-fit : (m : List ℕ) → Small m → Each (λ (x : ℕ). x < 65536) (words m)
+unfolding words
+words-fit [] s = tt
+words-fit (x ∷ []) s = tt
+words-fit (x ∷ y ∷ m) s = (omega (arith, s .at 0, s .at 1), words-fit m (record { at = λ p. s .at (suc (suc p)) }))
+
+two-of : (x y : ℕ) → x < 256 → y < 256 → two (x * 256 + y) ≡ x ∷ y ∷ []
+unfolding two
+two-of x y h k =
+    let a : (x * 256 + y) / 256 % 256 ≡ x = omega arith in
+    let b : (x * 256 + y) % 256 ≡ y = omega arith in
+    ap₂ (λ (v w : ℕ). v ∷ w ∷ []) a b
+
+pub bytes-back : (k : ℕ) (m : List ℕ) → length m ≡ 2 * k → Small m → asBytes (words m) ≡ m
+unfolding words asBytes
+bytes-back k [] l s = refl
+bytes-back zero (x ∷ m) l s = absurd (omega arith)
+bytes-back (suc k) (x ∷ []) l s = absurd (omega arith)
+bytes-back (suc k) (x ∷ y ∷ m) l s =
+    ap₂ (λ (u v : List ℕ). u ++ v) (two-of x y (s .at 0) (s .at 1)) (bytes-back k m (omega arith) (record { at = λ p. s .at (suc (suc p)) }))
 
 -- 65,535 is 255 twice
 pub words-full : (n : ℕ) → words (replicate (2 * n) 255) ≡ replicate n 65535
