@@ -1,3 +1,3 @@
--- What the host gets, and what is promised of it.
-pub mod Hosted
+-- What each exported entry promises, and that no second outcome fits.
+pub mod Promised
 pub mod Promises

@@ -1,27 +1,28 @@
--- No second outcome fits the promise of an exported entry.
+-- No second outcome fits the promise of an exported entry: answers, byte, image, table and outputs are equal, each.
 use mathlib.Core.Path.{_≡_, sym, _∙_}
-use mathlib.Core.List.{List, []}
+use mathlib.Core.List.{List}
 use Prim.Native.Nat.{ℕ}
-use Rattle.rules.specs.Outcome.{Effect, left}
-use Rattle.rules.specs.Block.{blockAt, preset, extension}
 use Rattle.rules.specs.Text.{errorText}
 use Rattle.rules.specs.Host.{hostCensus}
-use Rattle.laws.specs.Single.{SingleOut, single-out, SingleTold, single-told}
-use Rattle.census_laws.specs.Accepted.{SingleSurvey, single-survey}
-use Rattle.flex.specs.Hosted.{Hosted}
+use Rattle.laws.specs.Single.{single-told}
+use Rattle.census_laws.specs.Accepted.{single-survey}
+use Rattle.flex.specs.Promised.{PresetPromise, ExtensionPromise, CallPromise, CensusPromise, TextPromise}
 
-pub flex-preset-single : (tab : List ℕ) (n i v : ℕ) → SingleOut (left [] tab (blockAt n) (preset tab n i v))
-flex-preset-single tab n i v = single-out (left [] tab (blockAt n) (preset tab n i v))
+pub flex-preset-single : (tab : List ℕ) (n i v : ℕ) {r r′ : ℕ} {t t′ : List ℕ} → PresetPromise tab n i v r t → PresetPromise tab n i v r′ t′
+    → (r ≡ r′) × (t ≡ t′)
+flex-preset-single tab n i v p q = (p .answers ∙ sym (q .answers), p .tables ∙ sym (q .tables))
 
-pub flex-extension-single : (tab : List ℕ) (n c : ℕ) → SingleOut (left [] tab (blockAt n) (extension tab n c))
-flex-extension-single tab n c = single-out (left [] tab (blockAt n) (extension tab n c))
+pub flex-extension-single : (tab : List ℕ) (n c : ℕ) {r r′ : ℕ} {t t′ : List ℕ} → ExtensionPromise tab n c r t → ExtensionPromise tab n c r′ t′
+    → (r ≡ r′) × (t ≡ t′)
+flex-extension-single tab n c p q = (p .answers ∙ sym (q .answers), p .tables ∙ sym (q .tables))
 
-pub flex-call-single : (img tab : List ℕ) (f : ℕ) (e : Effect) {r r′ : ℕ} {i i′ t t′ : List ℕ} → Hosted img tab f e r i t → Hosted img tab f e r′ i′ t′
+pub flex-call-single : (img tab : List ℕ) (n b : ℕ) {r r′ : ℕ} {i i′ t t′ : List ℕ} → CallPromise img tab n b r i t → CallPromise img tab n b r′ i′ t′
     → (r ≡ r′) × (i ≡ i′) × (t ≡ t′)
-flex-call-single img tab f e p q = (p .answers ∙ sym (q .answers), p .images ∙ sym (q .images), p .tables ∙ sym (q .tables))
+flex-call-single img tab n b p q = (p .answers ∙ sym (q .answers), p .images ∙ sym (q .images), p .tables ∙ sym (q .tables))
 
-pub flex-census-single : (img xs ys : List ℕ) → SingleSurvey (hostCensus img xs ys)
-flex-census-single img xs ys = single-survey (hostCensus img xs ys)
+pub flex-census-single : (img xs ys : List ℕ) {r r′ : ℕ} {us us′ ws ws′ : List ℕ} → CensusPromise img xs ys r us ws → CensusPromise img xs ys r′ us′ ws′
+    → (r ≡ r′) × (us ≡ us′) × (ws ≡ ws′)
+flex-census-single img xs ys p q = single-survey (hostCensus img xs ys) _ _ _ _ _ _ p q
 
-pub flex-error-text-single : (text : List ℕ) (e : ℕ) → SingleTold (errorText text e)
-flex-error-text-single text e = single-told (errorText text e)
+pub flex-error-text-single : (m : List ℕ) (e : ℕ) {r r′ : ℕ} {t t′ : List ℕ} → TextPromise m e r t → TextPromise m e r′ t′ → (r ≡ r′) × (t ≡ t′)
+flex-error-text-single m e p q = single-told (errorText m e) _ _ _ _ p q

@@ -1,19 +1,11 @@
 // The five entries as a host program in C or Rust reaches them: numbers and byte slices, each slice a pointer and its length.
-// Nothing else stands here; the prototypes are in host/flex.h.
-ghost use mathlib.Core.Path.{_≡_};
-ghost use mathlib.Core.List.{[]};
-ghost use Rattle.rules.specs.Outcome.{out, left};
-ghost use Rattle.rules.specs.Block.{blockAt, preset, extension};
-ghost use Rattle.rules.specs.Call.{call};
-ghost use Rattle.rules.specs.Census.{survey};
-ghost use Rattle.rules.specs.Text.{told, errorText};
-ghost use Rattle.rules.specs.Host.{hostCensus};
-ghost use Rattle.flex.specs.Hosted.{Hosted};
+// Nothing else stands here; the prototypes are in host/flex.h. What each promises is a predicate of specs/Promised.antt.
+ghost use Rattle.flex.specs.Promised.{PresetPromise, ExtensionPromise, CallPromise, CensusPromise, TextPromise};
 
 // Preset: the answer.
 #[no_mangle]
 pub extern "C" fn flex_preset(table: &mut [u8], fcb: usize, offset: usize, value: u8) -> u32
-    ensures { λ r. ⌜ out r 0 [] (now (table .exit)) ≡ left [] (now (table .entry)) (blockAt fcb) (preset (now (table .entry)) fcb offset value) ⌝ }
+    ensures { λ r. ⌜ PresetPromise (now (table .entry)) fcb offset value r (now (table .exit)) ⌝ }
 {
     blocks::preset(table, fcb, offset, value) as u32
 }
@@ -21,7 +13,7 @@ pub extern "C" fn flex_preset(table: &mut [u8], fcb: usize, offset: usize, value
 // Default extension: the answer.
 #[no_mangle]
 pub extern "C" fn flex_extension(table: &mut [u8], fcb: usize, code: usize) -> u32
-    ensures { λ r. ⌜ out r 0 [] (now (table .exit)) ≡ left [] (now (table .entry)) (blockAt fcb) (extension (now (table .entry)) fcb code) ⌝ }
+    ensures { λ r. ⌜ ExtensionPromise (now (table .entry)) fcb code r (now (table .exit)) ⌝ }
 {
     blocks::default_extension(table, fcb, code) as u32
 }
@@ -29,7 +21,7 @@ pub extern "C" fn flex_extension(table: &mut [u8], fcb: usize, code: usize) -> u
 // The FMS call: 256 times the answer plus the byte.
 #[no_mangle]
 pub extern "C" fn flex_call(image: &mut [u8], table: &mut [u8], fcb: usize, byte: u8) -> u32
-    ensures { λ r. ⌜ Hosted (now (image .entry)) (now (table .entry)) (blockAt fcb) (call (now (image .entry)) (now (table .entry)) fcb byte) r (now (image .exit)) (now (table .exit)) ⌝ }
+    ensures { λ r. ⌜ CallPromise (now (image .entry)) (now (table .entry)) fcb byte r (now (image .exit)) (now (table .exit)) ⌝ }
 {
     let reply = fms::call(image, table, fcb, byte);
     256 * reply.answer as u32 + reply.byte as u32
@@ -38,7 +30,7 @@ pub extern "C" fn flex_call(image: &mut [u8], table: &mut [u8], fcb: usize, byte
 // The census: the answer, and both outputs as bytes, two an entry.
 #[no_mangle]
 pub extern "C" fn flex_census(image: &[u8], sectors: &mut [u8], owners: &mut [u8]) -> u32
-    ensures { λ r. ⌜ survey r (now (sectors .exit)) (now (owners .exit)) ≡ hostCensus (now (image .entry)) (now (sectors .entry)) (now (owners .entry)) ⌝ }
+    ensures { λ r. ⌜ CensusPromise (now (image .entry)) (now (sectors .entry)) (now (owners .entry)) r (now (sectors .exit)) (now (owners .exit)) ⌝ }
 {
     census_bytes::census_bytes(image, sectors, owners) as u32
 }
@@ -46,7 +38,7 @@ pub extern "C" fn flex_census(image: &[u8], sectors: &mut [u8], owners: &mut [u8
 // The error text: the answer.
 #[no_mangle]
 pub extern "C" fn flex_error_text(text: &mut [u8], number: u8) -> u32
-    ensures { λ r. ⌜ told r (now (text .exit)) ≡ errorText (now (text .entry)) number ⌝ }
+    ensures { λ r. ⌜ TextPromise (now (text .entry)) number r (now (text .exit)) ⌝ }
 {
     message::error_text(text, number) as u32
 }
