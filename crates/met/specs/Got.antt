@@ -19,7 +19,7 @@ use Rattle.laws.specs.Addresses.{Shape}
 use Rattle.chains.specs.Addresses.{absurd-bool}
 use Rattle.chains.specs.Chain.{contents}
 use Rattle.chains.specs.Directory.{Listing}
-use Rattle.demands.specs.Ledger.{Call, setting, extending, asking, File, noFile, Block, closed, reading, Ledger, Request, asks, Fate, denied, granted, reply, gives, block, file, onBlock, loaded, transferred, rewound, performed, called}
+use Rattle.demands.specs.Ledger.{Call, setting, extending, asking, File, noFile, Block, closed, reading, Ledger, Request, asks, Fate, denied, granted, reply, gives, activity, block, file, onBlock, loaded, transferred, rewound, performed, called}
 use Rattle.met.specs.Relation.{opens, Reading, Keeps}
 use Rattle.demands.specs.Service.{flex, Machine, answers, gave, next, entry, log}
 use Rattle.demands.specs.History.{Scene, then, scenes, calls, concat, had, Only, readTo, Reads}
@@ -186,7 +186,7 @@ module _ (M S : ℕ) (z : Shape M S) (ds : List ℕ) (d : Listing S ds) where
     unfolding performed served within
     own-rewind b k =
         let φ : called M S a n (asks a n b) ≡ rewound M S a n (asks a n b) (reading s (t .j) (t .i)) =
-        called-of M S a n (asks a n b) 5 k refl (dr b) (ap (λ (y : Block). fits 5 (Rattle.demands.specs.Ledger.activity y)) (t .reader) ∙ fits-five)
+        called-of M S a n (asks a n b) 5 k refl (dr b) (ap (λ (y : Block). fits 5 (activity y)) (t .reader) ∙ fits-five)
         ∙ (rw (k, t .reader) refl) in
         let st = asked M S z ds d x a g n b hn in
         let an : answers flex x (asking n b) ≡ 0 = st .ans ∙ ap reply φ in

@@ -6,13 +6,13 @@ use mathlib.Core.List.{List, [], _∷_, _++_}
 use Prim.Native.Nat.{ℕ, _+_, _*_, _≤_, _<_}
 use native.Mathlib.Omega.{arith}
 use native.Mathlib.Decide.{decLt, ℕ-discrete}
-use lib.ListN.{length, getD}
+use lib.ListN.{length, getD, set}
 use lib.Seq.{getD-set-same}
 use lib.Dec.{eqb, ltb}
-use borrow.Author.Tests.{eq-eqb, ne-eqb, lt-ltb, le-ltb, ltb-true}
+use borrow.Author.Tests.{eq-eqb, ne-eqb, eqb-true, lt-ltb, le-ltb, ltb-true}
 use Rattle.rules.specs.Bytes.{pick, part, one, zeros}
 use Rattle.rules.specs.Stores.{Put, put, stored, puts}
-use Rattle.rules.specs.Outcome.{Effect, effect, answer, given, onImage, onBlock}
+use Rattle.rules.specs.Outcome.{Effect, effect, answer, given, onImage, onBlock, out}
 use Rattle.rules.specs.Image.{lastTrack, perTrack}
 use Rattle.rules.specs.Directory.{directory}
 use Rattle.rules.specs.Block.{blockAt, presettable, idle, activityIn, extensions, presetIn, extensionIn, extension, preset}
@@ -29,7 +29,7 @@ use Rattle.chains.specs.Addresses.{Sized}
 use Rattle.chains.specs.Directory.{Listing}
 use Rattle.demands.specs.Ledger.{Call, setting, extending, asking, blockOf, Ledger, form, Request, asks, request, Fate, denied, granted, ended, edits, reply, gives, after, called, fate, putInto}
 use Rattle.demands.specs.Diskette.{ledgerOf}
-use Rattle.demands.specs.Service.{flex, Machine, Entry, outcome, answers, gave, next, entry, run, log}
+use Rattle.demands.specs.Service.{flex, ansOf, byteOf, Machine, Entry, outcome, answers, gave, next, entry, run, log}
 use Rattle.demands.specs.History.{Scene, noted, then, history, scenes, Told}
 use Rattle.demands.specs.Demands.{Start, begun, surveyAnswer, dataSectors}
 use Rattle.met.specs.Relation.{tb, Agrees}
@@ -48,7 +48,7 @@ InBlock e = Each Within (onBlock e)
 preset-within : (tab : List ℕ) (f i v : ℕ) → Each Within (onBlock (presetIn tab f i v))
 unfolding presetIn
 preset-within tab f i v =
-    pick-cases InBlock (eqb i 0) _ _ (λ h. let e : i ≡ 0 = borrow.Author.Tests.eqb-true i 0 h in (omega (arith, length-one v), tt))
+    pick-cases InBlock (eqb i 0) _ _ (λ h. let e : i ≡ 0 = eqb-true i 0 h in (omega (arith, length-one v), tt))
     (λ h. pick-cases InBlock (presettable i) _ _ (λ k. pick-cases InBlock (idle (activityIn tab f)) _ _ (λ l. (omega (arith, offset-is i k .high, length-one v), tt)) (λ l. tt)) (λ k. tt))
 
 extension-within : (tab : List ℕ) (f c : ℕ) → Each Within (onBlock (extensionIn tab f c))
@@ -172,8 +172,8 @@ module _ (M S : ℕ) (z : Shape M S) (ds : List ℕ) (d : Listing S ds) (x : Mac
           agrees = reform M S ds (stored (x .img) (onImage (call (x .img) (x .tab) n b))) tab′ (ledgerBy a φ) n (putsBy (ended φ))
               (subst (λ (y : Ledger). Agrees M S ds (stored (x .img) (onImage (call (x .img) (x .tab) n b))) tab′ y) (ended-ledger a φ) (met .rep));
           tidy = tidy-by φ ch;
-          formed = subst (λ (y : List (List ℕ)). Formed tab′ (lib.ListN.set y n (puts (getD y n []) 0 (putsBy (ended φ))))) (sym fs)
-              (subst (λ (ps : List Put). Formed tab′ (lib.ListN.set (a .forms) n (puts (getD (a .forms) n []) 0 ps))) (met .laid)
+          formed = subst (λ (y : List (List ℕ)). Formed tab′ (set y n (puts (getD y n []) 0 (putsBy (ended φ))))) (sym fs)
+              (subst (λ (ps : List Put). Formed tab′ (set (a .forms) n (puts (getD (a .forms) n []) 0 ps))) (met .laid)
               (formed-puts (x .tab) (a .forms) (f .formed) (f .agrees .tlen) n (onBlock (call (x .img) (x .tab) n b)) hn (met .within)));
         }
 
@@ -252,67 +252,59 @@ module _ (M S : ℕ) (z : Shape M S) (ds : List ℕ) (d : Listing S ds) (x : Mac
   off-table n e h = rw (eq-eqb (length (x .tab)) 2560 (f .agrees .tlen), le-ltb n 8 h) refl
 
   -- a preset or an extension of block n, whose effect on the table is e and on the ledger's bytes e′
-  edited : (c : Call) (n : ℕ) (e e′ : Effect) → outcome flex x c ≡ Rattle.rules.specs.Outcome.out (answer e) 0 (x .img) (puts (x .tab) (320 * n) (onBlock e))
+  edited : (c : Call) (n : ℕ) (e e′ : Effect) → outcome flex x c ≡ out (answer e) 0 (x .img) (puts (x .tab) (320 * n) (onBlock e))
       → fate M S a c ≡ edits a e′ → blockOf c ≡ n → ((v : ℕ) → noted a c v ≡ a) → n < 8 → e′ ≡ e → Each Within (onBlock e) → (answer e ≢ 0 → onBlock e ≡ [])
       → Agrees M S ds (x .img) (puts (x .tab) (320 * n) (onBlock e)) a → Step M S ds x a c
   unfolding next then entry
   edited c n e e′ o ft bc nt hn same within refused still = record {
     fine = rw (o, ft, bc, nt (answer e)) (edit-fine n e e′ hn same within refused still);
-    ans = ap Rattle.demands.specs.Service.ansOf o ∙ edit-answer n e e′ hn same within refused still ∙ ap reply (sym ft);
-    byte = ap Rattle.demands.specs.Service.byteOf o ∙ edit-byte n e e′ hn same within refused still ∙ ap gives (sym ft);
+    ans = ap ansOf o ∙ edit-answer n e e′ hn same within refused still ∙ ap reply (sym ft);
+    byte = ap byteOf o ∙ edit-byte n e e′ hn same within refused still ∙ ap gives (sym ft);
   }
 
   -- of a block that there is not: nothing happens
-  unedited : (c : Call) → outcome flex x c ≡ Rattle.rules.specs.Outcome.out 13 0 (x .img) (x .tab) → fate M S a c ≡ denied 13 → ((v : ℕ) → noted a c v ≡ a)
+  unedited : (c : Call) → outcome flex x c ≡ out 13 0 (x .img) (x .tab) → fate M S a c ≡ denied 13 → ((v : ℕ) → noted a c v ≡ a)
       → Step M S ds x a c
   unfolding next then entry
   unedited c o ft nt = record {
     fine = rw (o, nt 13) f;
-    ans = ap Rattle.demands.specs.Service.ansOf o ∙ ap reply (sym ft);
-    byte = ap Rattle.demands.specs.Service.byteOf o ∙ ap gives (sym ft);
+    ans = ap ansOf o ∙ ap reply (sym ft);
+    byte = ap byteOf o ∙ ap gives (sym ft);
   }
+
+  -- either
+  edit-step : (c : Call) (n : ℕ) (e e′ w : Effect) → w ≡ pick (eqb (length (x .tab)) 2560) (pick (ltb n 8) e (effect 13 0 [] [])) (effect 13 0 [] [])
+      → outcome flex x c ≡ out (answer w) 0 (x .img) (puts (x .tab) (320 * n) (onBlock w)) → fate M S a c ≡ pick (ltb n 8) (edits a e′) (denied 13) → blockOf c ≡ n
+      → ((v : ℕ) → noted a c v ≡ a) → (n < 8 → e′ ≡ e) → Each Within (onBlock e) → (answer w ≢ 0 → onBlock w ≡ []) → length (onImage w) ≤ 0
+      → Agrees M S ds (stored (x .img) (onImage w)) (puts (x .tab) (320 * n) (onBlock w)) a → Step M S ds x a c
+  edit-step c n e e′ w whole o ft bc nt same within refused few still = go (decLt n 8)
+    where
+      go : Dec (n < 8) → Step M S ds x a c
+      go (yes h) =
+          let is : w ≡ e = whole ∙ on-table n e h in
+          edited c n e e′ (o ∙ ap (λ (y : Effect). out (answer y) 0 (x .img) (puts (x .tab) (320 * n) (onBlock y))) is)
+          (ft ∙ ap (λ (u : Bool). pick u (edits a e′) (denied 13)) (lt-ltb n 8 h)) bc nt h (same h) within (subst (λ (y : Effect). answer y ≢ 0 → onBlock y ≡ []) is refused)
+          (subst (λ (y : Effect). Agrees M S ds (x .img) (puts (x .tab) (320 * n) (onBlock y)) a) is
+          (subst (λ (m : List ℕ). Agrees M S ds m (puts (x .tab) (320 * n) (onBlock w)) a) (nothing-stored (x .img) w few) still))
+      go (no h) =
+          unedited c (o ∙ ap (λ (y : Effect). out (answer y) 0 (x .img) (puts (x .tab) (320 * n) (onBlock y))) (whole ∙ off-table n e (omega arith)))
+          (ft ∙ ap (λ (u : Bool). pick u (edits a e′) (denied 13)) (le-ltb n 8 (omega arith))) nt
 
   set-step : (n i v : ℕ) → Step M S ds x a (setting n i v)
   unfolding outcome fate preset
-  set-step n i v = go (decLt n 8)
-    where
-      go : Dec (n < 8) → Step M S ds x a (setting n i v)
-      go (yes h) =
-          let e = presetIn (x .tab) (320 * n) i v in
-          let is : preset (x .tab) n i v ≡ e = on-table n e h in
-          let quiet = preset-quiet (x .img) (x .tab) n i v in
-          edited (setting n i v) n e (presetIn (form a n) 0 i v)
-          (ap (λ (w : Effect). Rattle.rules.specs.Outcome.out (answer w) 0 (x .img) (puts (x .tab) (320 * n) (onBlock w))) is)
-          (rw (lt-ltb n 8 h) refl) refl (λ w. refl) h (ap (λ (m : List ℕ). presetIn m 0 i v) (sym (f .formed .is n h)) ∙ preset-in (x .tab) (320 * n) i v)
-          (preset-within (x .tab) (320 * n) i v) (subst (λ (w : Effect). answer w ≢ 0 → onBlock w ≡ []) is (quiet .1))
-          (subst (λ (w : Effect). Agrees M S ds (x .img) (puts (x .tab) (320 * n) (onBlock w)) a) is
-          (subst (λ (m : List ℕ). Agrees M S ds m (puts (x .tab) (320 * n) (onBlock (preset (x .tab) n i v))) a) (nothing-stored (x .img) (preset (x .tab) n i v) (quiet .0 .few))
-          (preset-still M S z ds d (x .img) (x .tab) a (f .agrees) n i v)))
-      go (no h) =
-          unedited (setting n i v)
-          (ap (λ (w : Effect). Rattle.rules.specs.Outcome.out (answer w) 0 (x .img) (puts (x .tab) (320 * n) (onBlock w))) (off-table n (presetIn (x .tab) (320 * n) i v) (omega arith)))
-          (rw (le-ltb n 8 (omega arith)) refl) (λ w. refl)
+  set-step n i v =
+      let quiet = preset-quiet (x .img) (x .tab) n i v in
+      edit-step (setting n i v) n (presetIn (x .tab) (320 * n) i v) (presetIn (form a n) 0 i v) (preset (x .tab) n i v) refl refl refl refl (λ w. refl)
+      (λ h. ap (λ (m : List ℕ). presetIn m 0 i v) (sym (f .formed .is n h)) ∙ preset-in (x .tab) (320 * n) i v)
+      (preset-within (x .tab) (320 * n) i v) (quiet .1) (quiet .0 .few) (preset-still M S z ds d (x .img) (x .tab) a (f .agrees) n i v)
 
   extend-step : (n c : ℕ) → Step M S ds x a (extending n c)
   unfolding outcome fate extension
-  extend-step n c = go (decLt n 8)
-    where
-      go : Dec (n < 8) → Step M S ds x a (extending n c)
-      go (yes h) =
-          let e = extensionIn (x .tab) (320 * n) c in
-          let is : extension (x .tab) n c ≡ e = on-table n e h in
-          let quiet = extension-quiet (x .img) (x .tab) n c in
-          edited (extending n c) n e (extensionIn (form a n) 0 c)
-          (ap (λ (w : Effect). Rattle.rules.specs.Outcome.out (answer w) 0 (x .img) (puts (x .tab) (320 * n) (onBlock w))) is)
-          (rw (lt-ltb n 8 h) refl) refl (λ w. refl) h (ap (λ (m : List ℕ). extensionIn m 0 c) (sym (f .formed .is n h)) ∙ extension-in (x .tab) (320 * n) c)
-          (extension-within (x .tab) (320 * n) c) (subst (λ (w : Effect). answer w ≢ 0 → onBlock w ≡ []) is (quiet .1))
-          (subst (λ (w : Effect). Agrees M S ds (x .img) (puts (x .tab) (320 * n) (onBlock w)) a) is
-          (subst (λ (m : List ℕ). Agrees M S ds m (puts (x .tab) (320 * n) (onBlock (extension (x .tab) n c))) a) (nothing-stored (x .img) (extension (x .tab) n c) (quiet .0 .few))
-          (extension-still M S z ds d (x .img) (x .tab) a (f .agrees) n c)))
-      go (no h) =
-          unedited (extending n c)
-          (ap (λ (w : Effect). Rattle.rules.specs.Outcome.out (answer w) 0 (x .img) (puts (x .tab) (320 * n) (onBlock w))) (off-table n (extensionIn (x .tab) (320 * n) c) (omega arith)))
-          (rw (le-ltb n 8 (omega arith)) refl) (λ w. refl)
+  extend-step n c =
+      let quiet = extension-quiet (x .img) (x .tab) n c in
+      edit-step (extending n c) n (extensionIn (x .tab) (320 * n) c) (extensionIn (form a n) 0 c) (extension (x .tab) n c) refl refl refl refl (λ w. refl)
+      (λ h. ap (λ (m : List ℕ). extensionIn m 0 c) (sym (f .formed .is n h)) ∙ extension-in (x .tab) (320 * n) c)
+      (extension-within (x .tab) (320 * n) c) (quiet .1) (quiet .0 .few) (extension-still M S z ds d (x .img) (x .tab) a (f .agrees) n c)
 
   -- ONE CALL, whatever it is
   pub step : (c : Call) → Step M S ds x a c

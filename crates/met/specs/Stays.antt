@@ -34,6 +34,7 @@ use Rattle.met.specs.Searches.{part-part}
 use Rattle.met.specs.Sectors.{free-data, secs-once}
 use Rattle.met.specs.Picture.{entry-is, sector-is, image-is}
 use Rattle.met.specs.Changes.{Changes, changes, base-kept, Freed, same, fewer, more, freed}
+use Rattle.met.specs.Tidy.{pick-true}
 use Rattle.met.specs.Survey.{file-back}
 use Rattle.met.specs.Runs.{Fine, Likewise, Asked, asked, beyond, block-after, likewise-set, likewise-extend, likewise-refused, likewise-asked, step}
 use Rattle.met.specs.Sent.{called-of}
@@ -110,10 +111,6 @@ freed-same a e once fr vs (fewer j gr q) k h h′ =
 freed-same a e once fr vs (more l ws) k h h′ = lookup-more k (a .free) l (a .spare) ws e h
 
 -- ---- the start's image stays the base
-
-neither-holds : (u v : Bool) → pick u true v ≡ false → (u ≡ false) × (v ≡ false)
-neither-holds true v h = absurd (absurd-bool {b = true} refl h)
-neither-holds false v h = (refl, h)
 
 then-base : (M S : ℕ) (x : Machine) (a : Ledger) (c : Call) → ((n b : ℕ) → n < 8 → Asked M S x a n b) → ((n b : ℕ) → 8 ≤ n → answers flex x (asking n b) ≡ 13)
     → (then M S a (entry flex x c)) .base ≡ a .base
@@ -238,8 +235,8 @@ not-within lo hi p h u v = absurd-bool (rw (le-leb lo p u, le-leb p hi v) refl) 
 not-in-slot : (os : List ℕ) (p : ℕ) → inSlot p os ≡ false → (s : ℕ) → s < length os → getD os s 0 ≤ p → p < getD os s 0 + 24 → ⊥
 unfolding inSlot
 not-in-slot [] p h s b u v = absurd (omega arith)
-not-in-slot (o ∷ os) p h zero b u v = not-within o (o + 23) p (neither-holds (within o (o + 23) p) (inSlot p os) h .0) u (omega arith)
-not-in-slot (o ∷ os) p h (suc s) b u v = not-in-slot os p (neither-holds (within o (o + 23) p) (inSlot p os) h .1) s (omega arith) u v
+not-in-slot (o ∷ os) p h zero b u v = not-within o (o + 23) p (pick-true (within o (o + 23) p) (inSlot p os) h .0) u (omega arith)
+not-in-slot (o ∷ os) p h (suc s) b u v = not-in-slot os p (pick-true (within o (o + 23) p) (inSlot p os) h .1) s (omega arith) u v
 
 module _ (M S : ℕ) (ds : List ℕ) (y : Machine) (a : Ledger) (r : Agrees M S ds (y .img) (y .tab) a) where
   pub stays : (p : ℕ) → p < 256 * S → within 541 546 p ≡ false → inSlot p (slotsOf ds) ≡ false → getD (y .img) p 0 ≡ getD (a .base) p 0

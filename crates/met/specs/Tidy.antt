@@ -20,7 +20,7 @@ use Rattle.met.specs.Searches.{Sat, seek-found, named-hit, slot-same}
 
 -- ---- the image
 
-pick-true : (b c : Bool) → pick b true c ≡ false → (b ≡ false) × (c ≡ false)
+pub pick-true : (b c : Bool) → pick b true c ≡ false → (b ≡ false) × (c ≡ false)
 pick-true true c h = absurd-bool {b = true} refl h
 pick-true false c h = (refl, h)
 
