@@ -1,6 +1,6 @@
 -- The ledger of a start: how the history reads image and table, once. What a census of a ledger lists.
 use mathlib.Core.List.{List, [], _∷_, _++_}
-use Prim.Native.Nat.{ℕ, zero, suc, _+_, _*_}
+use Prim.Native.Nat.{ℕ, zero, suc, _+_}
 use lib.ListN.{length, replicate}
 use Rattle.rules.specs.Bytes.{pick, part}
 use Rattle.rules.specs.Directory.{live, slots}

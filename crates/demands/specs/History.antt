@@ -10,7 +10,7 @@ use Rattle.rules.specs.Bytes.{pick, part, one, same}
 use Rattle.rules.specs.Stores.{put}
 use Rattle.rules.specs.Directory.{live, placeOf, member, slots}
 use Rattle.rules.specs.Block.{uses}
-use Rattle.demands.specs.Ledger.{Call, setting, extending, asking, blockOf, File, Block, closed, listing, reading, writing, Ledger, file, block, Request, asks, holdsOpen, putInto, fate, reply, gives, after}
+use Rattle.demands.specs.Ledger.{Call, setting, extending, asking, blockOf, File, Block, closed, listing, reading, writing, Ledger, file, block, asks, holdsOpen, putInto, fate, reply, gives, after}
 use Rattle.demands.specs.Diskette.{filesAt}
 use Rattle.demands.specs.Service.{Entry}
 

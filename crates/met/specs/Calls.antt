@@ -22,7 +22,7 @@ use Rattle.laws.specs.Addresses.{Shape}
 use Rattle.chains.specs.Addresses.{shape-right, absurd-bool}
 use Rattle.chains.specs.Directory.{Listing}
 use Rattle.laws.specs.Stores.{puts-off}
-use Rattle.demands.specs.Ledger.{noFile, Block, closed, listing, reading, writing, Ledger, Request, Fate, activity, block, transferred, shutBlock, rewound, shownNext, directoryOpened, performed, called, ended, request}
+use Rattle.demands.specs.Ledger.{noFile, Block, closed, listing, reading, writing, Ledger, Request, Fate, activity, block, transferred, shutBlock, rewound, shownNext, performed, called, ended, request}
 use Rattle.met.specs.Relation.{tb, opens, Reading, Writing, Keeps, Agrees, tp-same}
 use Rattle.met.specs.Quiet.{turned, activity-is, quiet, idle-quiet, idle-opens}
 use Rattle.met.specs.Meets.{Meets, meets-pick, meets-unless, Met, settles}

@@ -1,6 +1,5 @@
 -- The bytes of the blocks: the table is what the ledger's forms say, and stays so where a call puts bytes into its block.
 use mathlib.Core.Path.{_≡_, refl, sym, ap, ap₂, _∙_, subst}
-use mathlib.Core.Logic.{_≢_}
 use mathlib.Core.List.{List, [], _∷_, _++_}
 use Prim.Native.Nat.{ℕ, zero, suc, _+_, _-_, _*_, _≤_, _<_}
 use native.Mathlib.Omega.{arith}
@@ -12,9 +11,9 @@ use Rattle.rules.specs.Stores.{Put, put, puts}
 use Rattle.rules.specs.Block.{presetIn, extensionIn}
 use Rattle.laws.specs.Bytes.{word-same, part-at, part-is, part-same, part-all, length-part, length-over, over-in, over-other}
 use Rattle.laws.specs.Each.{Each}
-use Rattle.laws.specs.Stores.{Within, length-puts, puts-other}
+use Rattle.laws.specs.Stores.{Within, puts-other}
 use Rattle.chains.specs.Tally.{flat}
-use Rattle.demands.specs.Ledger.{Request, request}
+use Rattle.demands.specs.Ledger.{request}
 use Rattle.demands.specs.Diskette.{formsFrom}
 use Rattle.met.specs.Searches.{part-part}
 use Rattle.met.specs.Picture.{part-join}

@@ -1,7 +1,7 @@
 -- What a block that reads gets, whatever other blocks do.
 use mathlib.Core.Path.{_≡_, refl, sym, ap, _∙_, subst}
 use mathlib.Core.Logic.{_≢_}
-use mathlib.Core.Bool.{Bool, true, false}
+use mathlib.Core.Bool.{true, false}
 use mathlib.Core.List.{List, [], _∷_}
 use Prim.Native.Nat.{ℕ, zero, suc, _+_, _-_, _*_, _%_, _≤_, _<_}
 use native.Mathlib.Omega.{arith}
@@ -22,9 +22,9 @@ use Rattle.chains.specs.Directory.{Listing}
 use Rattle.demands.specs.Ledger.{Call, setting, extending, asking, File, noFile, Block, closed, reading, Ledger, Request, asks, Fate, denied, granted, reply, gives, activity, block, file, onBlock, loaded, transferred, rewound, performed, called}
 use Rattle.met.specs.Relation.{opens, Reading, Keeps}
 use Rattle.demands.specs.Service.{flex, Machine, answers, gave, next, entry, log}
-use Rattle.demands.specs.History.{Scene, then, scenes, calls, concat, had, Only, readTo, Reads}
+use Rattle.demands.specs.History.{then, scenes, calls, concat, had, Only, readTo, Reads}
 use Rattle.met.specs.Meets.{ledgerBy}
-use Rattle.met.specs.Runs.{Fine, Likewise, Asked, asks-is, asked, likewise-set, likewise-extend, likewise-refused, likewise-asked, step}
+use Rattle.met.specs.Runs.{Fine, Likewise, asks-is, asked, likewise-set, likewise-extend, likewise-refused, likewise-asked, step}
 use Rattle.met.specs.Rests.{sceneOf}
 use Rattle.met.specs.Sent.{called-of, called-zero, fits-one, Untouched, untouched, other-call}
 

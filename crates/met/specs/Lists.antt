@@ -21,7 +21,7 @@ use Rattle.laws.specs.Addresses.{Shape}
 use Rattle.chains.specs.Chain.{first-getD}
 use Rattle.chains.specs.Directory.{Listing, directory-is, slot-at, length-slots, spot, spot-sector, placed-spot, behind}
 use Rattle.laws.specs.Stores.{puts-off, puts-at}
-use Rattle.demands.specs.Ledger.{Block, closed, listing, Ledger, Request, Fate, denied, granted, onBlock, entryOf, imageOf, directoryOpened, shownNext, fetched, request, file}
+use Rattle.demands.specs.Ledger.{Block, closed, listing, Ledger, Request, Fate, denied, granted, onBlock, entryOf, directoryOpened, shownNext, fetched, request, file}
 use Rattle.met.specs.Relation.{tb, opens, Listed, Keeps, Agrees, tp-same}
 use Rattle.met.specs.Quiet.{turned, shut-block, idle-quiet}
 use Rattle.met.specs.Meets.{Meets, meets-unless}

@@ -22,7 +22,7 @@ use Rattle.laws.specs.Bytes.{word-put, part-at, part-is, part-same, length-part
 use Rattle.chains.specs.Tally.{tally-append, apart}
 use Rattle.laws.specs.Addresses.{Shape}
 use Rattle.chains.specs.Addresses.{adr, absurd-bool}
-use Rattle.chains.specs.Chain.{first, lastOf, Chain, tally-last, first-in, last-append, seg-same, chain-same, empty, pieces, pieces-same, pieces-append, contents}
+use Rattle.chains.specs.Chain.{first, lastOf, Chain, tally-last, first-in, last-append, seg-same, chain-same, empty, pieces, pieces-same, pieces-append}
 use Rattle.chains.specs.Moves.{hung-on}
 use Rattle.chains.specs.Directory.{Listing}
 use Rattle.laws.specs.Small.{small-two, small-six}

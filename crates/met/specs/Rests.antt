@@ -25,7 +25,7 @@ use Rattle.met.specs.Tidy.{nameOf, Tidy, found-there}
 use Rattle.met.specs.Changes.{Change, Changes, changes, length-kept, rename-legal, Slot, kept, own, fresh, lost, moved, slot-fate, writes-before, live-not-room}
 use Rattle.demands.specs.Service.{flex, Machine, answers, gave, next, entry, log}
 use Rattle.demands.specs.History.{Scene, then, history, scenes, onCall, hits, nameAfter, nameThen, Survives, Unnamed}
-use Rattle.met.specs.Runs.{Fine, Likewise, Asked, asked, beyond, likewise-set, likewise-extend, likewise-refused, likewise-asked, step}
+use Rattle.met.specs.Runs.{Fine, Likewise, asked, beyond, likewise-set, likewise-extend, likewise-refused, likewise-asked, step}
 
 -- slot s has the file f, which is live, and no block writes it
 pub record Rests (a : Ledger) (s : ℕ) (f : File) : Type 0 where

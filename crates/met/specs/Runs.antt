@@ -2,7 +2,7 @@
 use mathlib.Core.Path.{_≡_, refl, sym, ap, _∙_, subst}
 use mathlib.Core.Logic.{_≢_}
 use mathlib.Core.Bool.{Bool, true, false}
-use mathlib.Core.List.{List, [], _∷_, _++_}
+use mathlib.Core.List.{List, [], _∷_}
 use Prim.Native.Nat.{ℕ, _+_, _*_, _≤_, _<_}
 use native.Mathlib.Omega.{arith}
 use native.Mathlib.Decide.{decLt, ℕ-discrete}
@@ -15,7 +15,7 @@ use Rattle.rules.specs.Stores.{Put, put, stored, puts}
 use Rattle.rules.specs.Outcome.{Effect, effect, answer, given, onImage, onBlock, out}
 use Rattle.rules.specs.Image.{lastTrack, perTrack}
 use Rattle.rules.specs.Directory.{directory}
-use Rattle.rules.specs.Block.{blockAt, presettable, idle, activityIn, extensions, presetIn, extensionIn, extension, preset}
+use Rattle.rules.specs.Block.{blockAt, presettable, idle, activityIn, presetIn, extensionIn, extension, preset}
 use Rattle.rules.specs.Call.{call}
 use Rattle.rules.specs.Census.{Survey, survey, census}
 use Rattle.laws.specs.Bytes.{length-one, length-part}
@@ -29,14 +29,14 @@ use Rattle.chains.specs.Addresses.{Sized}
 use Rattle.chains.specs.Directory.{Listing}
 use Rattle.demands.specs.Ledger.{Call, setting, extending, asking, blockOf, Ledger, form, Request, asks, request, Fate, denied, granted, ended, edits, reply, gives, after, called, fate, putInto}
 use Rattle.demands.specs.Diskette.{ledgerOf}
-use Rattle.demands.specs.Service.{flex, ansOf, byteOf, Machine, Entry, outcome, answers, gave, next, entry, run, log}
-use Rattle.demands.specs.History.{Scene, noted, then, history, scenes, Told}
+use Rattle.demands.specs.Service.{flex, ansOf, byteOf, Machine, outcome, answers, gave, next, entry, run, log}
+use Rattle.demands.specs.History.{noted, then, history, scenes, Told}
 use Rattle.demands.specs.Demands.{Start, begun, surveyAnswer, dataSectors}
-use Rattle.met.specs.Relation.{tb, Agrees}
+use Rattle.met.specs.Relation.{Agrees}
 use Rattle.met.specs.Meets.{Sure, putsBy, ledgerBy, Met}
-use Rattle.met.specs.Calls.{call-met, preset-still, extension-still, Offset, offset-is, extension-length}
+use Rattle.met.specs.Calls.{call-met, preset-still, extension-still, offset-is, extension-length}
 use Rattle.met.specs.Tidy.{Tidy}
-use Rattle.met.specs.Changes.{Change, Changes, changes, forms-kept, tidy-change, own-live}
+use Rattle.met.specs.Changes.{Changes, changes, forms-kept, tidy-change, own-live}
 use Rattle.met.specs.Survey.{start-listing, start-agrees, start-tidy}
 use Rattle.met.specs.Forms.{request-in, preset-in, extension-in, Formed, formed-start, formed-puts, formed-beyond}
 

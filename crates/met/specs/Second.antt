@@ -18,23 +18,22 @@ use Rattle.rules.specs.Files.{opened as putsOpened}
 use Rattle.rules.specs.Call.{served, fits}
 use Rattle.laws.specs.Tests.{both}
 use Rattle.laws.specs.Addresses.{Shape}
-use Rattle.chains.specs.Addresses.{absurd-bool}
 use Rattle.chains.specs.Chain.{pieces, length-pieces}
 use Rattle.chains.specs.Directory.{Listing}
-use Rattle.demands.specs.Ledger.{Call, setting, extending, asking, File, noFile, Block, closed, listing, reading, writing, Ledger, Request, asks, Fate, denied, granted, reply, nowhere, slot, fileNamed, vacantSlot, holdsOpen, busy, activity, block, file, entryOf, tableOf, onBlock, onFile, withLast, withMark, withName, newFile, padTo, openedToRead, openedToWrite, shutBlock, performed, called}
+use Rattle.demands.specs.Ledger.{Call, setting, extending, asking, File, noFile, Block, closed, listing, reading, writing, Ledger, asks, Fate, denied, granted, reply, nowhere, slot, fileNamed, vacantSlot, holdsOpen, busy, activity, block, file, entryOf, tableOf, onBlock, onFile, withLast, withName, newFile, padTo, openedToRead, openedToWrite, shutBlock, performed, called}
 use Rattle.demands.specs.Service.{flex, Machine, answers, next, entry, run, log}
 use Rattle.demands.specs.History.{then, history, scenes, hits, nameAfter, nameThen, Survives, sentBy, concat, front, content}
-use Rattle.demands.specs.Demands.{Start, begun, lastOf, perOf, told, Asks, Idle, nameOf, rest, counted, ledgerAfter, since, toldSince, ReadBack, Kept, WrittenTo, Created, Demand2}
+use Rattle.demands.specs.Demands.{Start, begun, lastOf, perOf, told, Asks, Idle, nameOf, rest, counted, ReadBack, Kept, Created, Demand2}
 use Rattle.met.specs.Relation.{opens, writes, Writing, Keeps}
 use Rattle.met.specs.Quiet.{nobody, writes-opens}
 use Rattle.met.specs.Meets.{Sure, ledgerBy}
 use Rattle.met.specs.Searches.{seek-found}
 use Rattle.met.specs.Changes.{Changes, changes, rename-legal}
 use Rattle.met.specs.Forms.{table-is}
-use Rattle.met.specs.Runs.{Fine, Likewise, Asked, asks-is, asked, beyond, likewise-asked, step, always, start-shape, start-list, start-fine}
+use Rattle.met.specs.Runs.{Fine, Likewise, asked, beyond, likewise-asked, step, always, start-shape, start-list, start-fine}
 use Rattle.met.specs.Rests.{Rests, found, sceneOf, rests-like, rests}
 use Rattle.met.specs.Sent.{called-of, concat-last, content-none, content-some, Wrote, wrote-like, written}
-use Rattle.met.specs.Got.{At, at-start, reads}
+use Rattle.met.specs.Got.{at-start, reads}
 
 -- ---- zeros to the end of the sector
 

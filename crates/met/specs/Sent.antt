@@ -8,8 +8,8 @@ use native.Mathlib.Omega.{arith}
 use native.Mathlib.Decide.{ℕ-discrete, decLt}
 use lib.ListN.{length, getD, set, drop, length-append}
 use lib.Seq.{getD-set-same}
-use lib.Dec.{eqb, ltb}
-use borrow.Author.Tests.{eq-eqb, ne-eqb, eqb-true}
+use lib.Dec.{eqb}
+use borrow.Author.Tests.{eq-eqb, ne-eqb}
 use Rattle.rules.specs.Bytes.{pick, two, zeros, within}
 use Rattle.rules.specs.Stores.{Put}
 use Rattle.rules.specs.Transfer.{sent as sentPuts}
@@ -25,10 +25,10 @@ use Rattle.met.specs.Searches.{not-busy, not-open}
 use Rattle.met.specs.Tidy.{nameOf}
 use Rattle.met.specs.Changes.{Change, Changes, changes, other-block, Slot, kept, own, fresh, lost, moved, slot-fate, live-not-room, open-live}
 use Rattle.demands.specs.Service.{flex, Machine, answers, next, entry, log}
-use Rattle.demands.specs.History.{Scene, then, history, scenes, calls, Only, sentIn, sentBy, unfinished, room, Accepts, concat, front, content}
+use Rattle.demands.specs.History.{then, history, scenes, calls, Only, sentIn, sentBy, unfinished, room, Accepts, concat, front, content}
 use Rattle.demands.specs.Demands.{counted}
 use Rattle.met.specs.Meets.{Sure, ledgerBy}
-use Rattle.met.specs.Runs.{Fine, Likewise, Asked, asks-is, asked, beyond, likewise-set, likewise-extend, likewise-refused, likewise-asked, step}
+use Rattle.met.specs.Runs.{Fine, Likewise, asks-is, asked, beyond, likewise-set, likewise-extend, likewise-refused, likewise-asked, step}
 use Rattle.met.specs.Rests.{sceneOf}
 
 -- ---- a request that passes the shared checks

@@ -1,15 +1,15 @@
 -- What stays after every list of calls: bytes that nobody names, free sectors while they are free, files that no call names. What 7 and 9 deliver.
-use mathlib.Core.Path.{_≡_, refl, sym, ap, ap₂, _∙_, subst}
+use mathlib.Core.Path.{_≡_, refl, sym, ap, _∙_, subst}
 use mathlib.Core.Logic.{_≢_}
-use mathlib.Core.Bool.{Bool, true, false}
+use mathlib.Core.Bool.{true, false}
 use mathlib.Core.List.{List, [], _∷_, _++_}
 use Prim.Native.Nat.{ℕ, zero, suc, _+_, _*_, _≤_, _<_}
 use native.Mathlib.Omega.{arith}
 use native.Mathlib.Decide.{ℕ-discrete, decLt}
 use lib.ListN.{length, getD, drop}
 use lib.Seq.{ext-getD}
-use lib.Dec.{eqb, leb, ltb}
-use borrow.Author.Tests.{eq-eqb, ne-eqb, eqb-true, lt-ltb, le-leb}
+use lib.Dec.{eqb}
+use borrow.Author.Tests.{eq-eqb, ne-eqb, lt-ltb, le-leb}
 use Rattle.rules.specs.Bytes.{pick, within, part, one, two}
 use Rattle.rules.specs.Stores.{Put, put, puts}
 use Rattle.rules.specs.Image.{index, isSector}
@@ -20,18 +20,17 @@ use Rattle.laws.specs.Bytes.{part-is, length-part, length-one}
 use Rattle.laws.specs.Stores.{length-puts, puts-append, puts-at}
 use Rattle.laws.specs.Addresses.{Shape}
 use Rattle.chains.specs.Addresses.{adr, absurd-bool}
-use Rattle.chains.specs.Tally.{tally, tally-append, eq1-same, eq1-ne, tally-head}
+use Rattle.chains.specs.Tally.{tally, eq1-same, eq1-ne, tally-head}
 use Rattle.chains.specs.Chain.{pieces, pieces-at, length-pieces}
 use Rattle.chains.specs.Walk.{chainAt}
 use Rattle.chains.specs.Directory.{Listing}
-use Rattle.demands.specs.Ledger.{Call, setting, extending, asking, blockOf, File, noFile, Block, closed, listing, Ledger, form, file, block, asks, activity, entryOf, imageOf, Fate, denied, granted, ended, reply, after, onBlock, shownNext, fetched, performed, called, fate, putInto}
-use Rattle.demands.specs.Service.{flex, Machine, Entry, answers, next, entry, run, log}
-use Rattle.demands.specs.History.{then, history, noted}
+use Rattle.demands.specs.Ledger.{Call, setting, extending, asking, File, Block, listing, Ledger, form, file, block, asks, activity, entryOf, imageOf, Fate, denied, granted, ended, reply, onBlock, shownNext, fetched, performed, called}
+use Rattle.demands.specs.Service.{flex, Machine, answers, next, entry, run, log}
+use Rattle.demands.specs.History.{then, history}
 use Rattle.demands.specs.Demands.{Asks, Idle, inSlot}
 use Rattle.met.specs.Relation.{Agrees, all-le}
-use Rattle.met.specs.Meets.{Sure, ledgerBy, putsBy}
+use Rattle.met.specs.Meets.{ledgerBy, putsBy}
 use Rattle.met.specs.Searches.{part-part}
-use Rattle.met.specs.Sectors.{free-data, secs-once}
 use Rattle.met.specs.Picture.{entry-is, sector-is, image-is}
 use Rattle.met.specs.Changes.{Changes, changes, base-kept, Freed, same, fewer, more, freed}
 use Rattle.met.specs.Tidy.{pick-true}

@@ -22,7 +22,7 @@ use Rattle.chains.specs.Chain.{empty}
 use Rattle.chains.specs.Directory.{Listing, directory-is}
 use Rattle.chains.specs.Walk.{numbers, length-numbers, tally-is, each-sound, once-complete}
 use Rattle.demands.specs.Ledger.{Call, asking, File, noFile, Block, closed, listing, reading, writing, Ledger, asks, Fate, reply, gives, holdsOpen, activity, block, file, called, secsOf}
-use Rattle.met.specs.Relation.{writes, Keeps, Agrees, Reading}
+use Rattle.met.specs.Relation.{writes, Keeps, Agrees}
 use Rattle.met.specs.Searches.{live-at, uses-is}
 use Rattle.demands.specs.Diskette.{ledgerOf, ledgerNumbers, ledgerOwners, fileAt, filesAt, ownersFrom}
 use Rattle.met.specs.Survey.{files-at, files-are, listed-is, owners-is, ledger-free, ledger-slots, sane-back, length-files}
