@@ -63,7 +63,7 @@ does help
 shows "usage:"
 does --version
 shows "flexbox "
-for command in list info check census get put delete rename dump; do
+for command in list info check census get put delete rename dump report; do
     does help "$command"
     shows "usage: flexbox $command "
     does "$command" --help

@@ -41,8 +41,8 @@ pub struct Check {
     pub slots: Vec<Slot>,
     /// The directory's sectors as far as its links are right.
     pub directory: Vec<Address>,
-    /// Who holds each data sector, by number: nobody, one, or several.
-    pub owners: Vec<Vec<Owner>>,
+    /// The free chain and the files', each with its sectors as far as its links are right.
+    pub chains: Vec<(Owner, Vec<Address>)>,
 }
 
 /// Looks at the whole diskette. Refused is only what is no image of a diskette (41).
@@ -57,23 +57,22 @@ pub fn check(diskette: &mut Diskette) -> Result<Check, Refusal> {
     let (directory, mut findings) = directory::walk(image, shape);
     let directory_is_right = findings.is_empty();
     findings.extend(directory::names(&slots));
-    let mut owners = vec![Vec::new(); shape.data_sectors()];
-    for chain in chains(image, &slots) {
+    let mut chains = Vec::new();
+    for chain in stated(image, &slots) {
         let walked = chain.walk(image, shape);
-        for &address in &walked.sectors {
-            owners[shape.number(address)].push(chain.owner);
-        }
         findings.extend(walked.fault.map(|fault| chain.finding(fault, &slots)));
+        chains.push((chain.owner, walked.sectors));
     }
+    let owners = sectors::owners(shape, &chains);
     findings.extend(sectors::shared(shape, &owners, &slots));
     if directory_is_right {
         findings.extend(sectors::lost(shape, &owners));
     }
-    Ok(Check { shape, verdict, findings, slots, directory, owners })
+    Ok(Check { shape, verdict, findings, slots, directory, chains })
 }
 
-/// The free chain, then the live files'.
-fn chains(image: &[u8], slots: &[Slot]) -> Vec<Chain> {
+/// The free chain, then the live files', as they are stated.
+fn stated(image: &[u8], slots: &[Slot]) -> Vec<Chain> {
     let files = slots.iter().filter_map(|slot| {
         let entry = slot.entry()?;
         Some(Chain { owner: Owner::File(slot.number), start: entry.start, end: entry.end, count: entry.sectors })
@@ -88,7 +87,7 @@ impl Check {
     }
 
     pub fn free_sectors(&self) -> usize {
-        self.owners.iter().filter(|owners| owners.contains(&Owner::Free)).count()
+        self.chains.iter().filter(|(owner, _)| *owner == Owner::Free).map(|(_, sectors)| sectors.len()).sum()
     }
 
     pub fn files(&self) -> usize {

@@ -10,6 +10,17 @@ pub enum Owner {
     File(usize),
 }
 
+/// Who holds each data sector, by number: nobody, one, or several.
+pub fn owners(shape: Shape, chains: &[(Owner, Vec<Address>)]) -> Vec<Vec<Owner>> {
+    let mut owners = vec![Vec::new(); shape.data_sectors()];
+    for (owner, sectors) in chains {
+        for &address in sectors {
+            owners[shape.number(address)].push(*owner);
+        }
+    }
+    owners
+}
+
 /// The owner as findings name it.
 pub fn holder(owner: Owner, slots: &[Slot]) -> String {
     match owner {

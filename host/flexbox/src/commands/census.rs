@@ -1,15 +1,12 @@
 //! `census`: which file holds each sector, as the proved census lists it.
 
 use super::list::live;
-use super::{change, look, plural, print, print_json, refused_of};
+use super::{change, letter, look, plural, print, print_json, refused_of};
 use crate::failure::Failure;
 use crate::json;
 use crate::words::Words;
 use flex::{Diskette, Held, Refusal, Shape, Slot};
 use std::fmt::Write;
-
-/// One letter a file; files past the last letter share '#'.
-const LETTERS: &[u8] = b"ABCDEFGHIJKLMNOPQRSTUVWXYZabcdefghijklmnopqrstuvwxyz0123456789";
 
 pub fn run(words: &Words) -> Result<(), Failure> {
     let mut diskette = look(words)?;
@@ -50,7 +47,7 @@ fn as_text(shape: Shape, held: &[Held], slots: &[Slot]) -> String {
 fn signs(slots: &[Slot]) -> Vec<char> {
     let mut signs = vec!['.'; slots.len() + 1];
     for (i, (slot, _)) in live(slots).enumerate() {
-        signs[slot.number] = LETTERS.get(i).map_or('#', |&letter| letter as char);
+        signs[slot.number] = letter(i);
     }
     signs
 }

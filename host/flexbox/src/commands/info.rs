@@ -8,17 +8,17 @@ use crate::words::Words;
 use flex::{Address, Diskette, Refusal};
 
 /// The information record, sector (0, 3), by its common FLEX layout.
-struct Record {
-    label: String,
-    volume: u16,
-    first_free: Address,
-    last_free: Address,
-    free: u16,
-    date: [u8; 3],
+pub struct Record {
+    pub label: String,
+    pub volume: u16,
+    pub first_free: Address,
+    pub last_free: Address,
+    pub free: u16,
+    pub date: [u8; 3],
 }
 
 impl Record {
-    fn read(diskette: &mut Diskette) -> Result<Record, Refusal> {
+    pub fn read(diskette: &mut Diskette) -> Result<Record, Refusal> {
         let sector = diskette.sector(Address::new(0, 3))?;
         let number = |at: usize| u16::from_be_bytes([sector[at], sector[at + 1]]);
         Ok(Record {
@@ -29,6 +29,14 @@ impl Record {
             free: number(33),
             date: [sector[35], sector[36], sector[37]],
         })
+    }
+
+    /// The date of the diskette as text.
+    pub fn made(&self) -> String {
+        match self.date {
+            [0, 0, 0] => "no date".to_string(),
+            [month, day, year] => format!("{:02}-{:02}-{:02}", month, day, year),
+        }
     }
 }
 
@@ -53,11 +61,6 @@ pub fn run(words: &Words) -> Result<(), Failure> {
 fn as_text(words: &Words, record: &Record, check: &Check) -> String {
     let shape = check.shape;
     let sectors = (shape.last as usize + 1) * shape.per as usize;
-    let [month, day, year] = record.date;
-    let made = match record.date {
-        [0, 0, 0] => "no date".to_string(),
-        _ => format!("{:02}-{:02}-{:02}", month, day, year),
-    };
     let label = if record.label.is_empty() { "none" } else { &record.label };
     let free = match record.free {
         0 => "no sector".to_string(),
@@ -75,7 +78,7 @@ fn as_text(words: &Words, record: &Record, check: &Check) -> String {
         shape.data_sectors(),
         label,
         record.volume,
-        made,
+        record.made(),
         free,
         check.files(),
         check.slots.len(),

@@ -6,10 +6,11 @@ mod check;
 mod demo;
 mod dump;
 mod get;
-mod info;
-mod list;
+pub mod info;
+pub mod list;
 mod pieces;
 mod put;
+mod report;
 mod table;
 
 pub use table::{find, overview};
@@ -58,6 +59,12 @@ fn print_json(json: &str) -> Result<(), Failure> {
     print(format!("{}\n", json).as_bytes())
 }
 
-fn plural(count: usize, what: &str) -> String {
+pub fn plural(count: usize, what: &str) -> String {
     format!("{} {}{}", count, what, if count == 1 { "" } else { "s" })
+}
+
+/// The letter of the i-th file in a picture; files past the last letter share '#'.
+pub fn letter(i: usize) -> char {
+    const LETTERS: &[u8] = b"ABCDEFGHIJKLMNOPQRSTUVWXYZabcdefghijklmnopqrstuvwxyz0123456789";
+    LETTERS.get(i).map_or('#', |&letter| letter as char)
 }

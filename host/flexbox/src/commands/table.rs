@@ -1,7 +1,8 @@
 //! The table of commands, and the help that is made of it.
 
-use super::{census, change, check, demo, dump, get, info, list, put};
+use super::{census, change, check, demo, dump, get, info, list, put, report};
 use crate::words::Command;
+use std::fmt::Write;
 
 /// As many operands as one likes.
 const MANY: usize = usize::MAX;
@@ -106,6 +107,16 @@ pub const COMMANDS: &[Command] = &[
         run: dump::run,
     },
     Command {
+        name: "report",
+        usage: "IMAGE > PAGE.html",
+        summary: "make a page to look at",
+        details: "Writes one HTML page to standard output, with all that it needs: the diskette as rows of sectors coloured by who\n\
+                  holds them, damaged places marked, the directory as a table, and what the census says in words.\n",
+        operands: (1, 1),
+        options: &[],
+        run: report::run,
+    },
+    Command {
         name: "demo",
         usage: "IMAGE",
         summary: "list, census, put, get and delete on the demo diskette, told step by step",
@@ -147,7 +158,7 @@ read or may not be written; 4 another program has IMAGE locked.
 pub fn overview() -> String {
     let mut text = String::from("usage: flexbox COMMAND ..\n\n");
     for command in COMMANDS {
-        text.push_str(&format!("  {:8} {}\n", command.name, command.summary));
+        let _ = writeln!(text, "  {:8} {}", command.name, command.summary);
     }
     text.push_str("  help     show this, or more of one command; --version shows the version\n");
     text + REST
