@@ -50,6 +50,8 @@ ends 1 "" check --json disk
 shows '"verdict":46'
 shows '"number":46,"text":"sector 2,7 is held by'
 shows '"slots":[2,4],"sectors":[[2,7]]'
+ends 1 "DISK ERROR #046" census --json disk
+shows '"verdict":46,"sectors":[]'
 refuses 1 "DISK ERROR #046" get disk POWER.TXT
 says "sector 2,7 is held by"
 

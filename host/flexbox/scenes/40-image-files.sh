@@ -20,6 +20,25 @@ if [ "$(id -u)" = 0 ]; then
     chmod 2664 disk
     does put disk NEW.TXT <lines
     [ "$(stat -c %u:%g:%a disk)" = 4321:8765:2664 ] || fail "owner and mode are now $(stat -c %u:%g:%a disk)"
+
+    # ---- who can't keep the owner does not change the image
+    other=(setpriv --reuid 4321 --regid 4321 --clear-groups)
+    chmod 755 "$top"
+    chmod 777 .
+    if "${other[@]}" "${flexbox[@]}" --version >/dev/null 2>&1; then
+        fresh
+        chmod 666 disk
+        touch out err
+        chmod 666 out err
+        flexbox=("${other[@]}" "${flexbox[@]}")
+        refuses 3 "disk: its owner and mode can't be given to the new image" put disk NEW.TXT <lines
+        chmod 644 disk
+        refuses 3 "disk: Permission denied" put disk NEW.TXT <lines
+        does list disk
+        flexbox=("${flexbox[@]:${#other[@]}}")
+    else
+        echo "flexbox: another user can't run it here: that an owner who can't be kept is a refusal was not tried"
+    fi
 else
     echo "flexbox: not root: that another owner of an image is kept was not tried"
 fi

@@ -39,7 +39,10 @@ fn run(arguments: &[OsString]) -> Result<(), Failure> {
         [] => Err(Failure::Usage("no command; 'flexbox help' lists them".to_string())),
         ["help" | "--help" | "-h"] => commands::print(commands::overview().as_bytes()),
         ["help", name] => commands::print(command(name)?.help().as_bytes()),
-        ["--version" | "-V"] => commands::print(concat!("flexbox ", env!("CARGO_PKG_VERSION"), "\n").as_bytes()),
+        ["--version" | "-V"] => {
+            let text = format!("flexbox {}, flex {}\n", env!("CARGO_PKG_VERSION"), flex::VERSION);
+            commands::print(text.as_bytes())
+        }
         [name, ..] => {
             let command = command(name)?;
             match Words::parse(command, &arguments[1..])? {

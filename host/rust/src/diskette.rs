@@ -93,6 +93,11 @@ impl Diskette {
         self.ask(fcb, function)
     }
 
+    /// Opens a file for read.
+    pub fn open(&mut self, fcb: usize, name: &Name) -> Result<(), Refusal> {
+        self.ask_of(fcb, OPEN_READ, name)
+    }
+
     /// Opens a new file for write.
     pub fn create(&mut self, fcb: usize, name: &Name, date: [u8; 3]) -> Result<(), Refusal> {
         self.preset_all(fcb, DATE, &date)?;
@@ -139,7 +144,7 @@ impl Diskette {
 
     /// All bytes of a file. On a damaged diskette they need not be what was written: look at [`Reading::is_as_stated`].
     pub fn get(&mut self, name: &Name) -> Result<Reading, Refusal> {
-        self.ask_of(JOB, OPEN_READ, name)?;
+        self.open(JOB, name)?;
         let entry = Entry::shown(self.block(JOB));
         let mut bytes = Vec::new();
         let stopped = loop {

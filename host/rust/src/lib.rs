@@ -38,6 +38,9 @@ pub use refusal::Refusal;
 pub use slot::{Entry, Place, Slot, State};
 pub use survey::{survey, Held};
 
+/// The version of this crate, which is that of flex.h.
+pub const VERSION: &str = env!("CARGO_PKG_VERSION");
+
 /// Writes one byte of block `fcb`: offset 0 always, 3-14, 25-27, 30-31 and 53-63 while no file is open in it.
 pub fn preset(table: &mut [u8], fcb: usize, offset: usize, value: u8) -> Result<(), Refusal> {
     settled(entry::preset(table, fcb, offset, value))

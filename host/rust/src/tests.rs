@@ -115,15 +115,15 @@ fn p9_rename_to_itself_and_to_another_name() {
     put(&mut five, "A.TXT", 1);
     assert_eq!(five.rename(&name("A.TXT"), &name("A.TXT")), Err(Refusal::Exists));
     five.rename(&name("A.TXT"), &name("B.TXT")).unwrap();
-    assert_eq!(five.ask_of(0, OPEN_READ, &name("A.TXT")), Err(Refusal::NotFound));
-    assert_eq!(five.ask_of(0, OPEN_READ, &name("B.TXT")), Ok(()));
+    assert_eq!(five.open(0, &name("A.TXT")), Err(Refusal::NotFound));
+    assert_eq!(five.open(0, &name("B.TXT")), Ok(()));
 }
 
 #[test]
 fn p10_delete_while_read() {
     let mut five = five();
     put(&mut five, "A.TXT", 1);
-    five.ask_of(0, OPEN_READ, &name("A.TXT")).unwrap();
+    five.open(0, &name("A.TXT")).unwrap();
     assert_eq!(five.ask_of(1, DELETE, &name("A.TXT")), Err(Refusal::InUse));
 }
 

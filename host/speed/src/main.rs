@@ -4,6 +4,8 @@
 //! every round starts from buffers that are cleared and made anew, and of all rounds the quickest counts, since what else
 //! the machine does can only slow one down. Both are called through a pointer to a function that is not inlined.
 
+#![forbid(unsafe_code)]
+
 use std::env;
 use std::process::ExitCode;
 use std::time::{Duration, Instant};

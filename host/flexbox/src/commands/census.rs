@@ -11,8 +11,12 @@ use std::fmt::Write;
 pub fn run(words: &Words) -> Result<(), Failure> {
     let mut diskette = look(words)?;
     let shape = Shape::stated(diskette.image()).unwrap_or(Shape { last: 0, per: 0 });
-    match diskette.survey() {
-        Ok(held) if words.has("--json") => print_json(&as_json(words, shape, &held)),
+    let census = diskette.survey();
+    if words.has("--json") {
+        print_json(&as_json(words, shape, &census))?;
+    }
+    match census {
+        Ok(_) if words.has("--json") => Ok(()),
         Ok(held) => {
             let slots = diskette.slots().map_err(refused_of(words, &diskette))?;
             print(as_text(shape, &held, &slots).as_bytes())
@@ -66,9 +70,9 @@ fn map(held: &[Held], signs: &[char], per: usize) -> String {
     text
 }
 
-/// The census's two lists as one, in its order.
-fn as_json(words: &Words, shape: Shape, held: &[Held]) -> String {
-    let sectors = held.iter().map(|held| {
+/// The census's two lists as one, in its order; none where it refuses.
+fn as_json(words: &Words, shape: Shape, census: &Result<Vec<Held>, Refusal>) -> String {
+    let sectors = census.iter().flatten().map(|held| {
         let address = json::address(shape.address(held.sector as usize));
         json::Object::new().with("sector", address).with("owner", held.owner).end()
     });
@@ -76,6 +80,7 @@ fn as_json(words: &Words, shape: Shape, held: &[Held]) -> String {
         .with_text("image", &words.image().to_string_lossy())
         .with("last_track", shape.last)
         .with("sectors_per_track", shape.per)
+        .with("verdict", census.as_ref().map_or_else(|refusal| refusal.number(), |_| 0))
         .with("sectors", json::list(sectors))
         .end()
 }

@@ -76,3 +76,35 @@ pub fn rename(words: &Words) -> Result<(), Failure> {
     let what = format!("{} to {}", old, new);
     change(words, |diskette| diskette.rename(&from, &to).map_err(refused(words.image(), &what)))
 }
+
+#[cfg(test)]
+mod tests {
+    use super::*;
+    use crate::commands::find;
+    use std::{env, fs, process};
+
+    /// Changes a sound diskette to this one; what is in the file then, and whether it was refused.
+    fn changed_to(test: &str, image: Vec<u8>) -> (Vec<u8>, bool) {
+        let path = env::temp_dir().join(format!("flexbox-change-{}-{}", test, process::id()));
+        fs::write(&path, diskettes::blank(1, 5)).unwrap();
+        let words = Words::parse(find("delete").unwrap(), &[path.clone().into(), "A".into(), "--force".into()]);
+        let words = words.ok().flatten().unwrap();
+        let result = change(&words, |diskette| {
+            *diskette = Diskette::new(image);
+            Ok(())
+        });
+        let bytes = fs::read(&path).unwrap();
+        fs::remove_file(&path).unwrap();
+        (bytes, matches!(result, Err(Failure::Refused(..))))
+    }
+
+    #[test]
+    fn a_change_that_damages_a_sound_diskette_is_not_saved() {
+        let mut damaged = diskettes::blank(1, 5);
+        damaged[546] = 4;
+        assert_eq!(changed_to("damaged", damaged), (diskettes::blank(1, 5), true));
+        let mut sound = diskettes::blank(1, 5);
+        sound[530] = 7;
+        assert_eq!(changed_to("sound", sound.clone()), (sound, false));
+    }
+}
