@@ -47,8 +47,14 @@ pub fn shared(shape: Shape, owners: &[Vec<Owner>], slots: &[Slot]) -> Vec<Findin
     groups.iter().map(|(holders, sectors)| sharing(shape, holders, sectors, slots)).collect()
 }
 
+/// How many holders of one sector are named before the rest is only counted.
+const NAMED: usize = 8;
+
 fn sharing(shape: Shape, holders: &[Owner], sectors: &[usize], slots: &[Slot]) -> Finding {
-    let names: Vec<String> = holders.iter().map(|&owner| holder(owner, slots)).collect();
+    let mut names: Vec<String> = holders.iter().take(NAMED).map(|&owner| holder(owner, slots)).collect();
+    if holders.len() > NAMED {
+        names.push(format!("{} more", holders.len() - NAMED));
+    }
     let text = format!("{} held by {}", ranges(shape, sectors), names.join(" and by "));
     let files = holders.iter().filter_map(|owner| match owner {
         Owner::Free => None,

@@ -102,5 +102,11 @@ fn write(path: &Path, bytes: &[u8], replace: bool, image: &Metadata) -> Result<(
         io::ErrorKind::AlreadyExists => "it is there already; --replace would replace it".to_string(),
         _ => error.to_string(),
     })?;
-    file.write_all(bytes).map_err(|error| error.to_string())
+    file.write_all(bytes).map_err(|error| {
+        if !replace {
+            // Made above, and not whole.
+            let _ = fs::remove_file(path);
+        }
+        error.to_string()
+    })
 }

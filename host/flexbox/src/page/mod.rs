@@ -130,6 +130,22 @@ mod tests {
     }
 
     #[test]
+    fn whatever_the_bytes_are_there_is_a_page() {
+        let mut number = 1u32;
+        for _ in 0..300 {
+            let mut image = vec![0; 3 * 6 * 256];
+            for byte in image.iter_mut() {
+                number = number.wrapping_mul(1_664_525).wrapping_add(1_013_904_223);
+                // Small numbers are addresses more often than large ones.
+                *byte = (number >> 24) as u8 & (number >> 16) as u8 & 7;
+            }
+            image[4 * 256..4 * 256 + 2].copy_from_slice(&[0, 0]);
+            let page = made("disk", &[(0, &image), (550, &[2, 6])]);
+            assert_eq!(count(&page, "<g class=\"cell"), 3 * 6);
+        }
+    }
+
+    #[test]
     fn damaged_places_are_marked() {
         // A's second sector is B's last, and 1,2 is lost.
         let shared = made("disk", &[(diskettes::offset(6, 1, 1), &[1, 5]), (1024 + 16 + 15, &[1, 5])]);
