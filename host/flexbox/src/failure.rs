@@ -8,7 +8,7 @@ pub enum Failure {
     Usage(String),
     /// The service or its census refused: by what, and what was asked.
     Refused(Refusal, String),
-    /// What was found is already on standard output.
+    /// Refused or damaged, and all that there is to say has been said.
     Shown,
     /// A file of this machine can't be read, or may not be written.
     File(String),

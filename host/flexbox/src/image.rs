@@ -52,6 +52,8 @@ impl Image {
             wait_for(&file, named, lock, deadline, wait)?;
             let image = Image { named: named.to_path_buf(), path, file };
             if image.is_still_there().map_err(failed)? {
+                // The file may have got another mode or a second name while another held the lock.
+                suits(named, &image.metadata().map_err(failed)?, lock)?;
                 return Ok(image);
             }
         }

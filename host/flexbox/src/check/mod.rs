@@ -37,7 +37,7 @@ pub struct Check {
     pub verdict: Result<(), Refusal>,
     /// In the order of the census's rules. Empty if the verdict is good.
     pub findings: Vec<Finding>,
-    /// None if the directory is not right.
+    /// Empty if the directory is not right: then the service does not list them.
     pub slots: Vec<Slot>,
     /// The directory's sectors as far as its links are right.
     pub directory: Vec<Address>,
