@@ -42,6 +42,17 @@ impl Diskette {
         Diskette { image, table: vec![0; TABLE] }
     }
 
+    /// An image and a table that are in use already. Panics if the table is not 2,560 bytes.
+    pub fn of_buffers(image: Vec<u8>, table: Vec<u8>) -> Diskette {
+        assert_eq!(table.len(), TABLE, "a table has 2,560 bytes");
+        Diskette { image, table }
+    }
+
+    /// The image and the table, for calls of the entries by themselves.
+    pub fn into_buffers(self) -> (Vec<u8>, Vec<u8>) {
+        (self.image, self.table)
+    }
+
     pub fn image(&self) -> &[u8] {
         &self.image
     }
