@@ -2,7 +2,9 @@
 
 use crate::pair::Checked;
 use crate::scene::Scene;
-use flex::{BLOCK, BLOCKS};
+use flex::{
+    ACTIVITY, BLOCK, BLOCKS, BUFFER, CLOSE, DRIVE, INDEX, NAME, NEW_NAME, NEXT_SLOT, PLACE, POSITION, SIZE, START,
+};
 
 const ACTIVITIES: [u8; 10] = [0, 0, 1, 1, 2, 2, 16, 3, 17, 255];
 const INDICES: [u8; 14] = [0, 0, 0, 1, 2, 3, 4, 5, 100, 253, 254, 255, 255, 255];
@@ -150,15 +152,15 @@ impl Scene<'_> {
                 self.random.fill(&mut block);
                 self.set_block(fcb, 0, &block);
                 let activity = self.random.one_of(&ACTIVITIES);
-                self.set_block(fcb, 2, &[activity, 0]);
+                self.set_block(fcb, ACTIVITY, &[activity, 0]);
             }
             1 => {
                 let activity = self.random.one_of(&ACTIVITIES);
-                self.set_block(fcb, 2, &[activity]);
+                self.set_block(fcb, ACTIVITY, &[activity]);
             }
             2 => {
                 let index = self.random.one_of(&INDICES);
-                self.set_block(fcb, 34, &[index]);
+                self.set_block(fcb, INDEX, &[index]);
             }
             3 => {
                 let (at, address) = (self.random.one_of(&[17, 19, 30, 64]), self.any_address());
@@ -166,11 +168,11 @@ impl Scene<'_> {
             }
             4 => {
                 let size = self.any_count().to_be_bytes();
-                self.set_block(fcb, 21, &size);
+                self.set_block(fcb, SIZE, &size);
             }
             5..=6 => self.damage_place(fcb),
             7 => self.join(fcb),
-            8 => self.set_block(fcb, 3, &[0]),
+            8 => self.set_block(fcb, DRIVE, &[0]),
             _ => self.set_block(fcb, 0, &[0; BLOCK]),
         }
     }
@@ -187,20 +189,20 @@ impl Scene<'_> {
             5 => [0, 5, self.random.one_of(&[0, 15, 17, 39, 231, 233, 255])],
             _ => [track, sector, displacement],
         };
-        self.set_block(fcb, 47, &place);
+        self.set_block(fcb, PLACE, &place);
     }
 
     /// The block at another one's place.
     fn join(&mut self, fcb: usize) {
         let other = self.random.below(BLOCKS);
         let place = self.block(other)[47..50].to_vec();
-        self.set_block(fcb, 47, &place);
+        self.set_block(fcb, PLACE, &place);
     }
 
     /// A block made ready for one call that reaches deep, and that call.
     pub fn aim(&mut self) -> Checked<()> {
         let fcb = self.random.below(BLOCKS);
-        self.set_block(fcb, 3, &[0]);
+        self.set_block(fcb, DRIVE, &[0]);
         match self.random.below(8) {
             0..=1 => self.aim_take(fcb),
             2 => self.aim_load(fcb),
@@ -225,15 +227,15 @@ impl Scene<'_> {
             let first = self.data_sector();
             self.set_address(541, first);
         }
-        self.set_block(fcb, 47, &Scene::place(slot));
+        self.set_block(fcb, PLACE, &Scene::place(slot));
         if self.random.chance(20) {
             self.damage_place(fcb);
         }
-        self.set_block_address(fcb, 17, start);
-        self.set_block(fcb, 21, &size.to_be_bytes());
-        self.set_block_address(fcb, 30, position);
-        self.set_block(fcb, 34, &[0]);
-        self.set_block(fcb, 2, &[2]);
+        self.set_block_address(fcb, START, start);
+        self.set_block(fcb, SIZE, &size.to_be_bytes());
+        self.set_block_address(fcb, POSITION, position);
+        self.set_block(fcb, INDEX, &[0]);
+        self.set_block(fcb, ACTIVITY, &[2]);
         let n = self.random.between(1, 3);
         self.transfer(fcb, n)
     }
@@ -241,11 +243,11 @@ impl Scene<'_> {
     /// Function 0 in reading at index 0.
     fn aim_load(&mut self, fcb: usize) -> Checked<()> {
         let (start, position, link) = (self.any_address(), self.any_address(), self.any_address());
-        self.set_block_address(fcb, 17, start);
-        self.set_block_address(fcb, 30, position);
-        self.set_block_address(fcb, 64, link);
-        self.set_block(fcb, 34, &[0]);
-        self.set_block(fcb, 2, &[1]);
+        self.set_block_address(fcb, START, start);
+        self.set_block_address(fcb, POSITION, position);
+        self.set_block_address(fcb, BUFFER, link);
+        self.set_block(fcb, INDEX, &[0]);
+        self.set_block(fcb, ACTIVITY, &[1]);
         let n = self.random.between(1, 3);
         self.transfer(fcb, n)
     }
@@ -254,9 +256,9 @@ impl Scene<'_> {
     fn aim_index(&mut self, fcb: usize) -> Checked<()> {
         let (position, index) = (self.any_address(), self.random.one_of(&INDICES));
         let activity = self.random.one_of(&[1, 2, 2]);
-        self.set_block_address(fcb, 30, position);
-        self.set_block(fcb, 34, &[index]);
-        self.set_block(fcb, 2, &[activity]);
+        self.set_block_address(fcb, POSITION, position);
+        self.set_block(fcb, INDEX, &[index]);
+        self.set_block(fcb, ACTIVITY, &[activity]);
         let n = self.random.between(1, 4);
         self.transfer(fcb, n)
     }
@@ -265,11 +267,11 @@ impl Scene<'_> {
         let (position, index) = (self.any_address(), self.random.one_of(&INDICES));
         let activity = self.random.one_of(&[1, 2, 2, 2, 2, 16, 3, 255]);
         let position = if self.random.chance(30) { (0, 0) } else { position };
-        self.set_block_address(fcb, 30, position);
-        self.set_block(fcb, 34, &[index]);
-        self.set_block(fcb, 2, &[activity]);
+        self.set_block_address(fcb, POSITION, position);
+        self.set_block(fcb, INDEX, &[index]);
+        self.set_block(fcb, ACTIVITY, &[activity]);
         self.damage_place(fcb);
-        self.ask(fcb, 4)?;
+        self.ask(fcb, CLOSE)?;
         Ok(())
     }
 
@@ -277,10 +279,10 @@ impl Scene<'_> {
         if self.random.chance(20) {
             self.damage_directory();
         }
-        self.set_block(fcb, 2, &[16]);
+        self.set_block(fcb, ACTIVITY, &[16]);
         self.damage_place(fcb);
         let mut left = self.random.between(1, 3);
-        while left > 0 && self.ask(fcb, 7)? == 0 {
+        while left > 0 && self.ask(fcb, NEXT_SLOT)? == 0 {
             left -= 1;
         }
         Ok(())
@@ -295,14 +297,14 @@ impl Scene<'_> {
         let other = self.random.below(BLOCKS);
         if self.random.chance(60) {
             let activity = self.random.one_of(&ACTIVITIES);
-            self.set_block(other, 47, &Scene::place(slot));
-            self.set_block(other, 2, &[activity]);
+            self.set_block(other, PLACE, &Scene::place(slot));
+            self.set_block(other, ACTIVITY, &[activity]);
         }
         let idle = self.random.one_of(&[0, 0, 16]);
         let (name, new) = (self.name_at(slot), self.any_name());
-        self.set_block(fcb, 2, &[idle]);
-        self.set_block(fcb, 4, &name);
-        self.set_block(fcb, 53, &new);
+        self.set_block(fcb, ACTIVITY, &[idle]);
+        self.set_block(fcb, NAME, &name);
+        self.set_block(fcb, NEW_NAME, &new);
         let code = self.random.one_of(&[12, 12, 12, 13, 13, 1, 2]);
         self.ask(fcb, code)?;
         Ok(())

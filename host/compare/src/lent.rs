@@ -3,7 +3,7 @@
 /// Bytes before and behind; a slice may be lent this much longer than it should be.
 pub const MARGIN: usize = 320;
 
-#[derive(Clone, PartialEq)]
+#[derive(Clone, PartialEq, Eq)]
 pub struct Lent {
     all: Vec<u8>,
     len: usize,

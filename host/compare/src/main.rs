@@ -5,6 +5,8 @@
 //! rough, where it is damaged now and then; wild, where control blocks are random too. Each has a seed of its own, so that
 //! a failure is repeated alone and at once.
 
+#![forbid(unsafe_code)]
+
 mod damage;
 mod lent;
 mod pair;

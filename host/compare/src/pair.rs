@@ -5,7 +5,7 @@ use crate::lent::Lent;
 use crate::seen::{Seen, Surveyed};
 use crate::tally::{row_of_call, Tally, CENSUS, ERROR_TEXT, EXTENSION, PRESET};
 use std::collections::VecDeque;
-use std::fmt;
+use std::fmt::{self, Write};
 
 /// A call that was made, with all that a repetition needs besides the buffers.
 #[derive(Clone, Copy, Debug)]
@@ -201,7 +201,7 @@ impl<'a> Pair<'a> {
     fn mismatch(&self, made: Made, what: String) -> Mismatch {
         let mut text = format!("the reference and the archive differ\n  in {:?}\n  {}\n  after the calls", made, what);
         for earlier in &self.recent {
-            text.push_str(&format!("\n    {:?}", earlier));
+            let _ = write!(text, "\n    {:?}", earlier);
         }
         Mismatch(text)
     }

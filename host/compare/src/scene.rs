@@ -2,7 +2,7 @@
 
 use crate::pair::{Checked, Pair};
 use crate::random::Random;
-use flex::{BLOCK, BLOCKS};
+use flex::{ACTIVITY, BLOCK, BLOCKS, FUNCTION, INDEX, NEXT_BYTE};
 
 pub type Address = (u8, u8);
 pub type Name = [u8; 11];
@@ -71,7 +71,7 @@ impl<'a> Scene<'a> {
     }
 
     pub fn activity(&self, fcb: usize) -> u8 {
-        self.block(fcb)[2]
+        self.block(fcb)[ACTIVITY]
     }
 
     /// A block with one of these activities if there is one, else any.
@@ -246,9 +246,9 @@ impl<'a> Scene<'a> {
     /// A function's code into byte 0, and the call.
     pub fn ask(&mut self, fcb: usize, code: u8) -> Checked<u32> {
         if self.random.chance(25) {
-            self.pair.preset(fcb, 0, code)?;
+            self.pair.preset(fcb, FUNCTION, code)?;
         } else {
-            self.set_block(fcb, 0, &[code]);
+            self.set_block(fcb, FUNCTION, &[code]);
         }
         let byte = self.random.byte();
         self.pair.call(fcb, byte)
@@ -256,7 +256,7 @@ impl<'a> Scene<'a> {
 
     /// Function 0 up to n times, until refused, and sometimes once again then.
     pub fn transfer(&mut self, fcb: usize, n: usize) -> Checked<()> {
-        self.set_block(fcb, 0, &[0]);
+        self.set_block(fcb, FUNCTION, &[NEXT_BYTE]);
         let mut left = n;
         while left > 0 {
             let byte = self.random.byte();
@@ -273,11 +273,11 @@ impl<'a> Scene<'a> {
 
     /// Moves the index from near the start of a sector to near its end; how many bytes that passes over.
     fn skipped(&mut self, fcb: usize) -> usize {
-        let index = self.block(fcb)[34];
+        let index = self.block(fcb)[INDEX];
         if !self.skips || !(8..250).contains(&index) {
             return 0;
         }
-        self.set_block(fcb, 34, &[252]);
+        self.set_block(fcb, INDEX, &[252]);
         252 - index as usize
     }
 

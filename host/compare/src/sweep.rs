@@ -6,7 +6,10 @@ use crate::pair::{Checked, Pair};
 use crate::random::Random;
 use crate::scene::Scene;
 use crate::tally::Tally;
-use flex::{BLOCK, TABLE};
+use flex::{
+    ACTIVITY, BLOCK, CLOSE, DELETE, EXTENSION, INDEX, NAME, NEW_NAME, NEXT_SLOT, OPEN_DIRECTORY, OPEN_READ, OPEN_WRITE,
+    PLACE, POSITION, READ_SECTOR, TABLE,
+};
 
 pub fn everything(tally: &mut Tally, seed: u64) -> Checked<()> {
     let mut random = Random::new(seed);
@@ -55,11 +58,11 @@ fn letters(tally: &mut Tally) -> Checked<()> {
                 let mut tried = *name;
                 tried[at] = letter;
                 pair.poke_table(0, &[1, 0, 0, 0]);
-                pair.poke_table(4, &tried);
+                pair.poke_table(NAME, &tried);
                 pair.call(0, 0)?;
                 pair.poke_table(0, &[13, 0, 0, 0]);
-                pair.poke_table(4, b"B\0\0\0\0\0\0\0TXT");
-                pair.poke_table(53, &tried);
+                pair.poke_table(NAME, b"B\0\0\0\0\0\0\0TXT");
+                pair.poke_table(NEW_NAME, &tried);
                 pair.call(0, 0)?;
             }
         }
@@ -78,7 +81,7 @@ fn places(tally: &mut Tally) -> Checked<()> {
                 for start in [[7, 0, 16], [0, 0, 2], [4, 0, 2]] {
                     pair.poke_table(0, &[0; BLOCK]);
                     pair.poke_table(0, &start);
-                    pair.poke_table(47, &place);
+                    pair.poke_table(PLACE, &place);
                     pair.call(0, value)?;
                 }
             }
@@ -96,8 +99,8 @@ fn attributes(tally: &mut Tally) -> Checked<()> {
             pair.poke_image(0, &image);
             pair.poke_image(4 * 256 + 16 + 11, &[attributes]);
             pair.poke_table(0, &[code, 0, 0, 0]);
-            pair.poke_table(4, b"A\0\0\0\0\0\0\0TXT");
-            pair.poke_table(53, b"B\0\0\0\0\0\0\0TXT");
+            pair.poke_table(NAME, b"A\0\0\0\0\0\0\0TXT");
+            pair.poke_table(NEW_NAME, b"B\0\0\0\0\0\0\0TXT");
             pair.call(0, 0)?;
         }
     }
@@ -119,7 +122,7 @@ fn presets(tally: &mut Tally) -> Checked<()> {
     let mut pair = Pair::new(&diskettes::blank(1, 5), &[7; TABLE], tally);
     for activity in [0, 1, 2, 3, 4, 15, 16, 17, 128, 144, 255] {
         for fcb in [0, 6, 7] {
-            pair.poke_table(fcb * BLOCK + 2, &[activity]);
+            pair.poke_table(fcb * BLOCK + ACTIVITY, &[activity]);
             for offset in 0..2 * BLOCK {
                 pair.preset(fcb, offset, (offset % 251) as u8 + 1)?;
             }
@@ -134,8 +137,8 @@ fn extensions(tally: &mut Tally) -> Checked<()> {
         for code in (0..=20).chain([255, 256, 65536, 1 << 32, usize::MAX]) {
             for old in [[0, 0, 0], [0, 9, 9], [1, 0, 0], [255, 0, 0]] {
                 for fcb in [0, 3, 7] {
-                    pair.poke_table(fcb * BLOCK + 2, &[activity]);
-                    pair.poke_table(fcb * BLOCK + 12, &old);
+                    pair.poke_table(fcb * BLOCK + ACTIVITY, &[activity]);
+                    pair.poke_table(fcb * BLOCK + EXTENSION, &old);
                     pair.extension(fcb, code)?;
                 }
             }
@@ -180,29 +183,29 @@ fn shapes(tally: &mut Tally, random: &mut Random) -> Checked<()> {
 fn shape(scene: &mut Scene) -> Checked<()> {
     let (last, per) = (scene.last as u8, scene.per as u8);
     scene.census()?;
-    scene.set_block(0, 4, b"LAST\0\0\0\0TXT");
+    scene.set_block(0, NAME, b"LAST\0\0\0\0TXT");
     // The last sector is made the first free one, so that a file reaches both ends of the data tracks.
     scene.set_address(541, (last, per));
-    scene.ask(0, 2)?;
+    scene.ask(0, OPEN_WRITE)?;
     scene.transfer(0, 1)?;
     scene.set_address(541, (1, 1));
-    scene.set_block(0, 34, &[255]);
+    scene.set_block(0, INDEX, &[255]);
     scene.transfer(0, 2)?;
-    scene.ask(0, 4)?;
+    scene.ask(0, CLOSE)?;
     scene.census()?;
-    scene.ask(0, 1)?;
+    scene.ask(0, OPEN_READ)?;
     scene.transfer(0, 1)?;
-    scene.set_block(0, 34, &[0]);
+    scene.set_block(0, INDEX, &[0]);
     scene.transfer(0, 1)?;
     for address in [(last, per), (last, per + 1), (last + 1, 1), (last, 0), (0, per), (0, 1)] {
-        scene.set_block_address(1, 30, address);
-        scene.ask(1, 9)?;
+        scene.set_block_address(1, POSITION, address);
+        scene.ask(1, READ_SECTOR)?;
     }
-    scene.ask(2, 6)?;
-    scene.set_block(2, 47, &[0, per, 232]);
-    scene.ask(2, 7)?;
-    scene.set_block(0, 2, &[0]);
-    scene.ask(0, 12)?;
+    scene.ask(2, OPEN_DIRECTORY)?;
+    scene.set_block(2, PLACE, &[0, per, 232]);
+    scene.ask(2, NEXT_SLOT)?;
+    scene.set_block(0, ACTIVITY, &[0]);
+    scene.ask(0, DELETE)?;
     scene.census()?;
     Ok(())
 }

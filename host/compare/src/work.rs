@@ -2,7 +2,10 @@
 
 use crate::pair::Checked;
 use crate::scene::Scene;
-use flex::{BLOCK, BLOCKS, TABLE};
+use flex::{
+    BLOCK, BLOCKS, CLOSE, DATE, DELETE, DRIVE, EXTENSION, NAME, NEW_NAME, NEXT_SLOT, OPEN_DIRECTORY, OPEN_READ,
+    OPEN_WRITE, POSITION, READ_SECTOR, RENAME, REWIND, TABLE,
+};
 
 const IDLE: &[u8] = &[0, 16];
 
@@ -37,10 +40,10 @@ impl Scene<'_> {
     fn write_file(&mut self) -> Checked<()> {
         let fcb = self.block_with(IDLE);
         let name = self.any_name();
-        self.give_name(fcb, 4, name)?;
+        self.give_name(fcb, NAME, name)?;
         let date = [self.random.byte(), self.random.byte(), self.random.byte()];
-        self.set_block(fcb, 25, &date);
-        if self.ask(fcb, 2)? != 0 || self.random.chance(15) {
+        self.set_block(fcb, DATE, &date);
+        if self.ask(fcb, OPEN_WRITE)? != 0 || self.random.chance(15) {
             return Ok(());
         }
         if self.random.chance(90) {
@@ -48,7 +51,7 @@ impl Scene<'_> {
             self.transfer(fcb, n)?;
         }
         if self.random.chance(70) {
-            self.ask(fcb, 4)?;
+            self.ask(fcb, CLOSE)?;
         }
         Ok(())
     }
@@ -62,13 +65,13 @@ impl Scene<'_> {
     fn read_file(&mut self) -> Checked<()> {
         let fcb = self.block_with(IDLE);
         let name = self.any_name();
-        self.give_name(fcb, 4, name)?;
-        if self.ask(fcb, 1)? == 0 && self.random.chance(80) {
+        self.give_name(fcb, NAME, name)?;
+        if self.ask(fcb, OPEN_READ)? == 0 && self.random.chance(80) {
             let n = self.burst();
             self.transfer(fcb, n)?;
         }
         if self.random.chance(50) {
-            self.ask(fcb, 4)?;
+            self.ask(fcb, CLOSE)?;
         }
         Ok(())
     }
@@ -82,8 +85,8 @@ impl Scene<'_> {
     fn delete_file(&mut self) -> Checked<()> {
         let fcb = self.block_with(IDLE);
         let name = self.any_name();
-        self.give_name(fcb, 4, name)?;
-        self.ask(fcb, 12)?;
+        self.give_name(fcb, NAME, name)?;
+        self.ask(fcb, DELETE)?;
         Ok(())
     }
 
@@ -91,11 +94,11 @@ impl Scene<'_> {
         let fcb = self.block_with(IDLE);
         let old = self.any_name();
         let new = if self.random.chance(20) { old } else { self.any_name() };
-        self.give_name(fcb, 4, old)?;
+        self.give_name(fcb, NAME, old)?;
         if self.random.chance(90) {
-            self.give_name(fcb, 53, new)?;
+            self.give_name(fcb, NEW_NAME, new)?;
         }
-        self.ask(fcb, 13)?;
+        self.ask(fcb, RENAME)?;
         Ok(())
     }
 
@@ -103,16 +106,16 @@ impl Scene<'_> {
     fn walk_directory(&mut self) -> Checked<()> {
         let fcb = self.block_with(IDLE);
         if self.activity(fcb) != 16 || self.random.chance(50) {
-            self.ask(fcb, 6)?;
+            self.ask(fcb, OPEN_DIRECTORY)?;
         }
         let most = if self.random.chance(30) { 10 * self.per } else { self.random.between(1, 12) };
         for _ in 0..most {
-            if self.ask(fcb, 7)? != 0 {
+            if self.ask(fcb, NEXT_SLOT)? != 0 {
                 break;
             }
         }
         if self.random.chance(40) {
-            self.ask(fcb, 4)?;
+            self.ask(fcb, CLOSE)?;
         }
         Ok(())
     }
@@ -120,9 +123,9 @@ impl Scene<'_> {
     fn read_sector(&mut self) -> Checked<()> {
         let fcb = self.block_with(IDLE);
         let address = self.any_address();
-        self.pair.preset(fcb, 30, address.0)?;
-        self.pair.preset(fcb, 31, address.1)?;
-        self.ask(fcb, 9)?;
+        self.pair.preset(fcb, POSITION, address.0)?;
+        self.pair.preset(fcb, POSITION + 1, address.1)?;
+        self.ask(fcb, READ_SECTOR)?;
         Ok(())
     }
 
@@ -142,13 +145,13 @@ impl Scene<'_> {
 
     fn close(&mut self) -> Checked<()> {
         let fcb = self.block_with(&[1, 2, 16]);
-        self.ask(fcb, 4)?;
+        self.ask(fcb, CLOSE)?;
         Ok(())
     }
 
     fn rewind(&mut self) -> Checked<()> {
         let fcb = self.block_with(&[1]);
-        if self.ask(fcb, 5)? == 0 {
+        if self.ask(fcb, REWIND)? == 0 {
             let n = self.burst();
             self.transfer(fcb, n)?;
         }
@@ -170,12 +173,12 @@ impl Scene<'_> {
         let fcb = self.block_with(IDLE);
         let first = self.random.below(1000);
         for i in 0..10 * (self.per - 4) + 1 {
-            self.set_block(fcb, 4, &Scene::numbered_name(first + i));
-            if self.ask(fcb, 2)? != 0 {
+            self.set_block(fcb, NAME, &Scene::numbered_name(first + i));
+            if self.ask(fcb, OPEN_WRITE)? != 0 {
                 break;
             }
             self.transfer(fcb, 1)?;
-            self.ask(fcb, 4)?;
+            self.ask(fcb, CLOSE)?;
         }
         Ok(())
     }
@@ -190,7 +193,7 @@ impl Scene<'_> {
             self.pair.preset(fcb, offset, if offset == 3 { 0 } else { value })?;
         }
         if self.random.chance(50) {
-            self.pair.preset(fcb, 12, 0)?;
+            self.pair.preset(fcb, EXTENSION, 0)?;
         }
         let code = self.random.below(14);
         self.pair.extension(fcb, code)?;
@@ -203,7 +206,7 @@ impl Scene<'_> {
         let other_drive = self.random.chance(25);
         if other_drive {
             let drive = self.random.between(1, 255) as u8;
-            self.set_block(fcb, 3, &[drive]);
+            self.set_block(fcb, DRIVE, &[drive]);
         }
         let any = self.random.byte();
         let code = self
@@ -211,7 +214,7 @@ impl Scene<'_> {
             .one_of(&[0, 1, 2, 4, 5, 6, 7, 9, 12, 13, 0, 1, 2, 4, 5, 6, 7, 9, 12, 13, 3, 8, 10, 11, 14, any]);
         self.ask(fcb, code)?;
         if other_drive {
-            self.set_block(fcb, 3, &[0]);
+            self.set_block(fcb, DRIVE, &[0]);
         }
         Ok(())
     }

@@ -5,78 +5,47 @@
 //! so its slot can be used again and its sectors are at the end of the free chain. The same bytes come out every time;
 //! host/test compares them with the file.
 
-use flex::Refusal;
+#![forbid(unsafe_code)]
+
+use flex::{Diskette, Name};
+use std::error::Error;
 use std::io::{self, Write};
 
 const DATE: [u8; 3] = [12, 3, 81];
 
-struct Making {
-    image: Vec<u8>,
-    table: Vec<u8>,
+fn line(minute: usize, text: &str) -> String {
+    format!("{:02}:{:02} {}\n", minute / 60, minute % 60, text)
 }
 
-impl Making {
-    fn ask(&mut self, fcb: usize, function: u8) -> Result<(), Refusal> {
-        flex::preset(&mut self.table, fcb, flex::FUNCTION, function)?;
-        flex::call(&mut self.image, &mut self.table, fcb, 0)?;
-        Ok(())
-    }
-
-    /// The name without its extension, which is TXT.
-    fn name(&mut self, fcb: usize, name: &str) -> Result<(), Refusal> {
-        for i in 0..11 {
-            let letter = name.as_bytes().get(i).copied().unwrap_or(0);
-            flex::preset(&mut self.table, fcb, flex::NAME + i, letter)?;
-        }
-        flex::extension(&mut self.table, fcb, 1)
-    }
-
-    fn open(&mut self, fcb: usize, name: &str) -> Result<(), Refusal> {
-        self.name(fcb, name)?;
-        for (i, part) in DATE.iter().enumerate() {
-            flex::preset(&mut self.table, fcb, flex::DATE + i, *part)?;
-        }
-        self.ask(fcb, flex::OPEN_WRITE)
-    }
-
-    fn line(&mut self, fcb: usize, minute: usize, text: &str) -> Result<(), Refusal> {
-        let line = format!("{:02}:{:02} {}\n", minute / 60, minute % 60, text);
-        for byte in line.bytes() {
-            flex::call(&mut self.image, &mut self.table, fcb, byte)?;
-        }
-        Ok(())
-    }
-}
-
-fn make() -> Result<Vec<u8>, Refusal> {
-    let mut making = Making { image: diskettes::blank(4, 8), table: vec![0; flex::TABLE] };
-    making.open(0, "OLD")?;
-    for i in 0..12 {
-        making.line(0, 7 * i, "TEST OF ALL BELLS AND LAMPS")?;
-    }
-    making.ask(0, flex::CLOSE)?;
-    making.open(0, "NORTH")?;
-    making.open(1, "SOUTH")?;
+/// Two logs written at the same time, a line of one and a line of the other.
+fn side_by_side(diskette: &mut Diskette, north: &Name, south: &Name) -> Result<(), Box<dyn Error>> {
+    diskette.create(0, north, DATE)?;
+    diskette.create(1, south, DATE)?;
     for i in 0..40 {
-        let north = format!("AMPLIFIER {} LEVEL {}", i / 2 % 9 + 1, ["LOW", "NORMAL"][i % 2]);
-        making.line(0, 360 + 11 * i, &north)?;
-        let south = format!("AMPLIFIER {} SUPPLY {} VOLTS", i % 24 + 1, 51 + 7 * i % 11);
-        making.line(1, 363 + 11 * i, &south)?;
+        let level = format!("AMPLIFIER {} LEVEL {}", i / 2 % 9 + 1, ["LOW", "NORMAL"][i % 2]);
+        diskette.send(0, line(360 + 11 * i, &level).as_bytes())?;
+        let supply = format!("AMPLIFIER {} SUPPLY {} VOLTS", i % 24 + 1, 51 + 7 * i % 11);
+        diskette.send(1, line(363 + 11 * i, &supply).as_bytes())?;
     }
-    making.ask(0, flex::CLOSE)?;
-    making.ask(1, flex::CLOSE)?;
-    making.open(0, "POWER")?;
-    for i in 0..24 {
-        making.line(0, 420 + 13 * i, &format!("FEEDER {} {}", i % 4 + 1, ["OFF", "ON"][i / 4 % 2]))?;
-    }
-    making.ask(0, flex::CLOSE)?;
-    making.name(0, "OLD")?;
-    making.ask(0, flex::DELETE)?;
-    flex::survey(&making.image)?;
-    Ok(making.image)
+    diskette.ask(0, flex::CLOSE)?;
+    diskette.ask(1, flex::CLOSE)?;
+    Ok(())
 }
 
-fn main() -> io::Result<()> {
-    let image = make().map_err(|refusal| io::Error::new(io::ErrorKind::Other, refusal))?;
-    io::stdout().write_all(&image)
+fn make() -> Result<Diskette, Box<dyn Error>> {
+    let mut diskette = Diskette::new(diskettes::blank(4, 8));
+    let old: String = (0..12).map(|i| line(7 * i, "TEST OF ALL BELLS AND LAMPS")).collect();
+    diskette.put(&"OLD".parse()?, old.as_bytes(), DATE)?;
+    side_by_side(&mut diskette, &"NORTH".parse()?, &"SOUTH".parse()?)?;
+    let feeder = |i: usize| format!("FEEDER {} {}", i % 4 + 1, ["OFF", "ON"][i / 4 % 2]);
+    let power: String = (0..24).map(|i| line(420 + 13 * i, &feeder(i))).collect();
+    diskette.put(&"POWER".parse()?, power.as_bytes(), DATE)?;
+    diskette.delete(&"OLD".parse()?)?;
+    diskette.survey()?;
+    Ok(diskette)
+}
+
+fn main() -> Result<(), Box<dyn Error>> {
+    io::stdout().write_all(make()?.image())?;
+    Ok(())
 }

@@ -3,6 +3,8 @@
 //! The service has no entry that formats, so these are laid out here by document 01, "Image": the directory's sectors are
 //! linked upward from (0, 5), the data sectors by rising track and then sector, and every other byte is zero.
 
+#![forbid(unsafe_code)]
+
 /// Where the information record, sector (0, 3), begins.
 pub const INFORMATION: usize = 2 * 256;
 

@@ -1,69 +1,130 @@
 //! A changed image takes the old one's place at once or not at all.
 
-use std::fs::{self, File, OpenOptions};
+use crate::image::Image;
+use std::fs::{self, File, OpenOptions, Permissions};
 use std::io::{self, Write};
+use std::os::unix::fs::{MetadataExt, OpenOptionsExt, PermissionsExt};
 use std::path::{Path, PathBuf};
 use std::process;
 
-/// Writes `bytes` to a new file beside `path`, syncs it, renames it over `path` and syncs the folder. A power cut at any
-/// moment leaves the old file or the new one at `path`, whole; at worst the new file stays behind beside it.
-pub fn replace(path: &Path, bytes: &[u8]) -> io::Result<()> {
-    // A link stays a link: what it leads to is replaced.
-    let path = fs::canonicalize(path)?;
-    let beside = beside(&path);
-    let done = write_synced(&beside, bytes, &path).and_then(|()| fs::rename(&beside, &path));
-    if done.is_err() {
-        let _ = fs::remove_file(&beside);
+/// How many names are tried for the new file.
+const TRIES: u32 = 100;
+
+/// Writes `bytes` to a new file beside the image, syncs it, renames it over the image and syncs the folder. A power cut at any
+/// moment leaves the old file or the new one, whole; at worst the new file stays behind beside it. What failed is told
+/// with the file that is meant.
+pub fn replace(image: &Image, bytes: &[u8]) -> Result<(), String> {
+    let folder = image.path().parent().unwrap_or_else(|| Path::new("/"));
+    let (new, file) = create_beside(folder)?;
+    if let Err(problem) = fill(&new, file, image, bytes).and_then(|()| put_in_place(&new, image)) {
+        // This file was made above, so nobody else's is deleted.
+        let _ = fs::remove_file(&new);
+        return Err(problem);
     }
-    done?;
-    sync_folder(&path)
+    sync_folder(folder).map_err(|error| {
+        format!("{}: the new image is in place, but its folder could not be synced: {}", folder.display(), error)
+    })
 }
 
-fn beside(path: &Path) -> PathBuf {
-    let name = path.file_name().unwrap_or_default().to_string_lossy().into_owned();
-    path.with_file_name(format!(".{}.{}.new", name, process::id()))
+/// A file that was not there, with a name of its own. Only its owner may read it until it is the image.
+fn create_beside(folder: &Path) -> Result<(PathBuf, File), String> {
+    let mut number = 0;
+    loop {
+        let path = folder.join(format!(".flexbox-{}-{}.new", process::id(), number));
+        match OpenOptions::new().write(true).create_new(true).mode(0o600).open(&path) {
+            Ok(file) => return Ok((path, file)),
+            Err(error) if error.kind() == io::ErrorKind::AlreadyExists && number < TRIES => number += 1,
+            Err(error) => return Err(format!("{}: a new file can't be made: {}", path.display(), error)),
+        }
+    }
 }
 
-/// The new file gets the permissions of the old one.
-fn write_synced(new: &Path, bytes: &[u8], old: &Path) -> io::Result<()> {
-    let mut file = OpenOptions::new().write(true).create_new(true).open(new)?;
-    file.set_permissions(fs::metadata(old)?.permissions())?;
-    file.write_all(bytes)?;
-    file.sync_all()
+fn fill(new: &Path, mut file: File, image: &Image, bytes: &[u8]) -> Result<(), String> {
+    let named = |error: io::Error| format!("{}: {}", new.display(), error);
+    keep_owner_and_mode(&file, image)?;
+    file.write_all(bytes).map_err(named)?;
+    file.sync_all().map_err(named)
+}
+
+/// The owner first: a change of it can take mode bits away.
+fn keep_owner_and_mode(file: &File, image: &Image) -> Result<(), String> {
+    let kept = |error: io::Error| {
+        format!("{}: its owner and mode can't be given to the new image: {}", image.named().display(), error)
+    };
+    let old = image.metadata().map_err(kept)?;
+    let new = file.metadata().map_err(kept)?;
+    if (old.uid(), old.gid()) != (new.uid(), new.gid()) {
+        posix::set_owner(file, old.uid(), old.gid()).map_err(kept)?;
+    }
+    file.set_permissions(Permissions::from_mode(old.mode() & 0o7777)).map_err(kept)
+}
+
+/// The lock is advisory: a program that does not ask for it may have put another file there meanwhile.
+fn put_in_place(new: &Path, image: &Image) -> Result<(), String> {
+    let named = |error: io::Error| format!("{}: {}", image.named().display(), error);
+    if !image.is_still_there().map_err(named)? {
+        return Err(format!("{}: another file was put there meanwhile; not changed", image.named().display()));
+    }
+    fs::rename(new, image.path()).map_err(named)
 }
 
 /// Only then is the rename itself safe from a cut.
-fn sync_folder(path: &Path) -> io::Result<()> {
-    match path.parent() {
-        Some(folder) => File::open(folder)?.sync_all(),
-        None => Ok(()),
-    }
+fn sync_folder(folder: &Path) -> io::Result<()> {
+    File::open(folder)?.sync_all()
 }
 
 #[cfg(test)]
 mod tests {
     use super::*;
     use std::env;
+    use std::time::Duration;
+
+    /// An empty folder of its own for a test.
+    fn folder(test: &str) -> PathBuf {
+        let folder = env::temp_dir().join(format!("flexbox-{}-{}", test, process::id()));
+        fs::create_dir(&folder).unwrap();
+        folder
+    }
+
+    fn take(path: &Path) -> Image {
+        Image::take(path, Duration::ZERO).unwrap()
+    }
 
     #[test]
     fn the_new_bytes_are_there_and_no_other_file() {
-        let folder = env::temp_dir().join(format!("flexbox-replace-{}", process::id()));
-        let image = folder.join("disk");
-        fs::create_dir(&folder).unwrap();
-        fs::write(&image, b"old").unwrap();
-        replace(&image, b"new and longer").unwrap();
-        assert_eq!(fs::read(&image).unwrap(), b"new and longer");
-        // Where the new file can't be made, the old one stays.
-        fs::create_dir(beside(&image)).unwrap();
-        assert!(replace(&image, b"never").is_err());
-        assert_eq!(fs::read(&image).unwrap(), b"new and longer");
-        fs::remove_dir(beside(&image)).unwrap();
+        let folder = folder("replace");
+        let path = folder.join("disk");
+        fs::write(&path, b"old").unwrap();
+        replace(&take(&path), b"new and longer").unwrap();
+        assert_eq!(fs::read(&path).unwrap(), b"new and longer");
         assert_eq!(fs::read_dir(&folder).unwrap().count(), 1);
         fs::remove_dir_all(&folder).unwrap();
     }
 
     #[test]
-    fn there_must_be_an_old_file() {
-        assert!(replace(Path::new("/nowhere/disk"), b"x").is_err());
+    fn a_file_that_another_made_is_neither_used_nor_deleted() {
+        let folder = folder("others");
+        let path = folder.join("disk");
+        fs::write(&path, b"old").unwrap();
+        let taken = folder.join(format!(".flexbox-{}-0.new", process::id()));
+        fs::write(&taken, b"another's").unwrap();
+        replace(&take(&path), b"new").unwrap();
+        assert_eq!(fs::read(&path).unwrap(), b"new");
+        assert_eq!(fs::read(&taken).unwrap(), b"another's");
+        fs::remove_dir_all(&folder).unwrap();
+    }
+
+    #[test]
+    fn a_file_that_was_put_there_meanwhile_stays() {
+        let folder = folder("meanwhile");
+        let path = folder.join("disk");
+        fs::write(&path, b"old").unwrap();
+        let image = take(&path);
+        fs::write(folder.join("other"), b"other").unwrap();
+        fs::rename(folder.join("other"), &path).unwrap();
+        assert!(replace(&image, b"new").is_err());
+        assert_eq!(fs::read(&path).unwrap(), b"other");
+        assert_eq!(fs::read_dir(&folder).unwrap().count(), 1);
+        fs::remove_dir_all(&folder).unwrap();
     }
 }

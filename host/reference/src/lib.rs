@@ -4,6 +4,8 @@
 //! call by call and byte by byte, and the straightforward program that its speed is measured against.
 //! Each function stands under the sentences of 01 that it follows.
 
+#![forbid(unsafe_code)]
+
 mod block;
 mod call;
 mod census;

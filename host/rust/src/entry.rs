@@ -1,4 +1,4 @@
-//! The five entries on numbers and slices, with the archive's own answers. The only unsafe code of the host is here.
+//! The five entries on numbers and slices, with the archive's own answers. The only unsafe code of this crate is here.
 //!
 //! Each call is safe for every input: the archive is proved to stay inside the slices that it is lent and to end, whatever
 //! they hold and however long they are, and two `&mut` slices can't overlap, which is all that a host owes it.
@@ -20,21 +20,32 @@ extern "C" {
 
 /// The answer: 0, 13 or 18.
 pub fn preset(table: &mut [u8], fcb: usize, offset: usize, value: u8) -> u32 {
+    // # Safety
+    // A slice's pointer is never null and leads to as many bytes as the slice is long; `table` is borrowed for the call
+    // alone, so nobody else writes to it meanwhile. Every `fcb`, `offset` and `value` is allowed.
     unsafe { flex_preset(table.as_mut_ptr(), table.len(), fcb, offset, value) }
 }
 
 /// The answer: 0 or 13.
 pub fn extension(table: &mut [u8], fcb: usize, code: usize) -> u32 {
+    // # Safety
+    // As in `preset`: pointer and length are of one slice, borrowed for the call alone. Every `fcb` and `code` is allowed.
     unsafe { flex_extension(table.as_mut_ptr(), table.len(), fcb, code) }
 }
 
 /// 256 times the answer plus the byte.
 pub fn call(image: &mut [u8], table: &mut [u8], fcb: usize, byte: u8) -> u32 {
+    // # Safety
+    // Each pointer and the length beside it are of one slice. Both are borrowed mutably for the call alone, so they do not
+    // overlap and nobody else touches them. Every content, `fcb` and `byte` is allowed.
     unsafe { flex_call(image.as_mut_ptr(), image.len(), table.as_mut_ptr(), table.len(), fcb, byte) }
 }
 
 /// The answer: 0 or 40 to 46.
 pub fn census(image: &[u8], sectors: &mut [u8], owners: &mut [u8]) -> u32 {
+    // # Safety
+    // Each pointer and the length beside it are of one slice. The outputs are borrowed mutably, so neither overlaps the
+    // other or the image, which the archive only reads (its pointer is const). Every content and length is allowed.
     unsafe {
         flex_census(image.as_ptr(), image.len(), sectors.as_mut_ptr(), sectors.len(), owners.as_mut_ptr(), owners.len())
     }
@@ -42,5 +53,7 @@ pub fn census(image: &[u8], sectors: &mut [u8], owners: &mut [u8]) -> u32 {
 
 /// The answer: 0 or 40.
 pub fn error_text(text: &mut [u8], number: u8) -> u32 {
+    // # Safety
+    // Pointer and length are of one slice, borrowed for the call alone. Every length and `number` is allowed.
     unsafe { flex_error_text(text.as_mut_ptr(), text.len(), number) }
 }

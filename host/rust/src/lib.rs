@@ -4,54 +4,42 @@
 //! its state is in these two; it keeps none of its own. Document 01 says what each entry does to every byte of them, for all
 //! inputs, and that is proved; [`Refusal`] has the numbers that it gives back.
 //!
+//! [`Diskette`] holds the two buffers and does the file work:
+//!
 //! ```no_run
-//! # fn main() -> Result<(), flex::Refusal> {
-//! let mut image = std::fs::read("alarms.dsk").unwrap();
-//! let mut table = [0; flex::TABLE];
-//! for (i, letter) in b"AMPL".iter().enumerate() {
-//!     flex::preset(&mut table, 0, flex::NAME + i, *letter)?;
-//! }
-//! flex::extension(&mut table, 0, 1)?; // TXT
-//! flex::preset(&mut table, 0, flex::FUNCTION, flex::OPEN_READ)?;
-//! flex::call(&mut image, &mut table, 0, 0)?;
-//! let first = flex::call(&mut image, &mut table, 0, 0)?; // opening has set function 0: next byte
-//! # let _ = first; Ok(())
+//! # fn main() -> Result<(), Box<dyn std::error::Error>> {
+//! let mut diskette = flex::Diskette::new(std::fs::read("alarms.dsk")?);
+//! diskette.put(&"NIGHT.TXT".parse()?, b"22:41 AMPLIFIER 14 LEVEL LOW\n", [11, 15, 26])?;
+//! diskette.survey()?; // every sector is free or in one file
+//! std::fs::write("new.dsk", diskette.image())?;
+//! # Ok(())
 //! # }
 //! ```
+//!
+//! [`preset`], [`extension`], [`call`], [`census`] and [`error_text`] are the five entries on buffers of the host's own, and
+//! [`entry`] has them with the archive's bare answers.
 
+#![deny(unsafe_code)]
+
+mod diskette;
+#[allow(unsafe_code)]
 pub mod entry;
+mod layout;
+mod name;
 mod refusal;
+mod slot;
+mod survey;
 
+pub use diskette::{Diskette, Reading};
+pub use layout::*;
+pub use name::{Name, NameTooLong};
 use refusal::settled;
 pub use refusal::Refusal;
+pub use slot::{Entry, Place, Slot, State};
+pub use survey::{survey, Held};
 
-/// The bytes of the table of control blocks.
-pub const TABLE: usize = BLOCKS * BLOCK;
-/// How many control blocks it has.
-pub const BLOCKS: usize = 8;
-/// The bytes of one control block.
-pub const BLOCK: usize = 320;
-
-// Offsets in a control block that a host presets or looks at.
-pub const FUNCTION: usize = 0;
-pub const NAME: usize = 4;
-pub const EXTENSION: usize = 12;
-pub const DATE: usize = 25;
-pub const POSITION: usize = 30;
-pub const NEW_NAME: usize = 53;
-pub const BUFFER: usize = 64;
-
-// The function codes that are served.
-pub const NEXT_BYTE: u8 = 0;
-pub const OPEN_READ: u8 = 1;
-pub const OPEN_WRITE: u8 = 2;
-pub const CLOSE: u8 = 4;
-pub const REWIND: u8 = 5;
-pub const OPEN_DIRECTORY: u8 = 6;
-pub const NEXT_SLOT: u8 = 7;
-pub const READ_SECTOR: u8 = 9;
-pub const DELETE: u8 = 12;
-pub const RENAME: u8 = 13;
+/// The version of this crate, which is that of flex.h.
+pub const VERSION: &str = env!("CARGO_PKG_VERSION");
 
 /// Writes one byte of block `fcb`: offset 0 always, 3-14, 25-27, 30-31 and 53-63 while no file is open in it.
 pub fn preset(table: &mut [u8], fcb: usize, offset: usize, value: u8) -> Result<(), Refusal> {
@@ -87,39 +75,6 @@ pub fn message(number: u8) -> String {
     let mut text = [0; 15];
     entry::error_text(&mut text, number);
     String::from_utf8_lossy(&text).into_owned()
-}
-
-/// One data sector in the census.
-#[derive(Clone, Copy, Debug, PartialEq, Eq)]
-pub struct Held {
-    /// Its number: sector (t, s) has (t − 1)·S + s − 1.
-    pub sector: u16,
-    /// 0: it is free. Else the number of the slot whose file holds it, all slots counted from 1.
-    pub owner: u16,
-}
-
-/// The census with outputs of the right length: free chain first, then the files in the order of their slots.
-pub fn survey(image: &[u8]) -> Result<Vec<Held>, Refusal> {
-    let bytes = 2 * data_sectors(image);
-    let mut sectors = vec![0; bytes];
-    let mut owners = vec![0; bytes];
-    census(image, &mut sectors, &mut owners)?;
-    let word = |bytes: &[u8]| u16::from_be_bytes([bytes[0], bytes[1]]);
-    Ok(sectors
-        .chunks(2)
-        .zip(owners.chunks(2))
-        .map(|(sector, owner)| Held { sector: word(sector), owner: word(owner) })
-        .collect())
-}
-
-/// The last track and the sectors per track that the information record states, if the image is long enough to have one.
-pub fn stated_shape(image: &[u8]) -> Option<(u8, u8)> {
-    Some((*image.get(550)?, *image.get(551)?))
-}
-
-/// Where the shape is wrong this is wrong too, and the census answers 41 whatever it is.
-fn data_sectors(image: &[u8]) -> usize {
-    stated_shape(image).map_or(0, |(last, per)| last as usize * per as usize)
 }
 
 #[cfg(test)]

@@ -1,5 +1,7 @@
 //! The numbers given back, as an enum.
 
+#![forbid(unsafe_code)]
+
 use std::fmt;
 
 /// Why a call was refused. Nothing was changed then but byte 1 of the control block, which has the number (and not even that

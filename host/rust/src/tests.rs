@@ -3,172 +3,208 @@
 use super::*;
 use diskettes::blank;
 
+const TODAY: [u8; 3] = [12, 3, 81];
+
 /// The five-sector diskette of document 01, empty, with all blocks closed.
-struct Box5 {
-    image: Vec<u8>,
-    table: Vec<u8>,
+fn five() -> Diskette {
+    Diskette::new(blank(1, 5))
 }
 
-impl Box5 {
-    fn new() -> Box5 {
-        Box5 { image: blank(1, 5), table: vec![0; TABLE] }
-    }
+fn name(text: &str) -> Name {
+    text.parse().unwrap()
+}
 
-    fn name(&mut self, fcb: usize, at: usize, name: &str) {
-        let (stem, extension) = name.split_once('.').unwrap();
-        for i in 0..11 {
-            let part = if i < 8 { stem.as_bytes().get(i) } else { extension.as_bytes().get(i - 8) };
-            preset(&mut self.table, fcb, at + i, *part.unwrap_or(&0)).unwrap();
-        }
-    }
+/// This many bytes that differ from their neighbours.
+fn bytes(count: usize) -> Vec<u8> {
+    (0..count).map(|i| i as u8).collect()
+}
 
-    fn ask(&mut self, fcb: usize, function: u8) -> Result<u8, Refusal> {
-        preset(&mut self.table, fcb, FUNCTION, function).unwrap();
-        call(&mut self.image, &mut self.table, fcb, 0)
-    }
+/// A file of this many bytes, written and closed.
+fn put(diskette: &mut Diskette, text: &str, count: usize) {
+    diskette.put(&name(text), &bytes(count), TODAY).unwrap();
+}
 
-    fn named(&mut self, fcb: usize, function: u8, name: &str) -> Result<u8, Refusal> {
-        self.name(fcb, NAME, name);
-        self.ask(fcb, function)
-    }
+/// First free, last free and free count, as six bytes.
+fn free(diskette: &Diskette) -> &[u8] {
+    &diskette.image()[541..547]
+}
 
-    fn send(&mut self, fcb: usize, count: usize) -> Result<(), Refusal> {
-        for i in 0..count {
-            call(&mut self.image, &mut self.table, fcb, i as u8)?;
-        }
-        Ok(())
-    }
+fn held(diskette: &Diskette) -> Vec<(u16, u16)> {
+    diskette.survey().unwrap().iter().map(|held| (held.sector, held.owner)).collect()
+}
 
-    /// A file of this many bytes, written and closed.
-    fn file(&mut self, name: &str, count: usize) {
-        self.named(0, OPEN_WRITE, name).unwrap();
-        self.send(0, count).unwrap();
-        self.ask(0, CLOSE).unwrap();
-    }
-
-    /// First free, last free and free count, as six bytes.
-    fn free(&self) -> &[u8] {
-        &self.image[541..547]
-    }
-
-    fn held(&self) -> Vec<(u16, u16)> {
-        survey(&self.image).unwrap().iter().map(|held| (held.sector, held.owner)).collect()
-    }
+/// The same diskette with some bytes of its image changed.
+fn patched(diskette: &Diskette, at: usize, bytes: &[u8]) -> Diskette {
+    let mut image = diskette.image().to_vec();
+    image[at..at + bytes.len()].copy_from_slice(bytes);
+    Diskette::new(image)
 }
 
 #[test]
 fn p1_the_empty_diskette_is_accepted() {
-    assert_eq!(Box5::new().held(), [(0, 0), (1, 0), (2, 0), (3, 0), (4, 0)]);
+    assert_eq!(held(&five()), [(0, 0), (1, 0), (2, 0), (3, 0), (4, 0)]);
 }
 
 #[test]
 fn p2_close_unwritten_deletes_the_slot() {
-    let mut five = Box5::new();
-    five.file("A.TXT", 0);
-    assert_eq!(five.image[1024 + 16], 255);
-    assert_eq!(five.free(), [1, 1, 1, 5, 0, 5]);
+    let mut five = five();
+    put(&mut five, "A.TXT", 0);
+    assert_eq!(five.image()[1024 + 16], 255);
+    assert_eq!(free(&five), [1, 1, 1, 5, 0, 5]);
 }
 
 #[test]
 fn p3_252_bytes_use_one_sector() {
-    let mut five = Box5::new();
-    five.named(0, OPEN_WRITE, "A.TXT").unwrap();
-    five.send(0, 252).unwrap();
-    assert_eq!(five.table[21..23], [0, 1]);
-    assert_eq!(five.free(), [1, 2, 1, 5, 0, 4]);
+    let mut five = five();
+    five.create(0, &name("A.TXT"), TODAY).unwrap();
+    five.send(0, &bytes(252)).unwrap();
+    assert_eq!(five.block(0)[SIZE..SIZE + 2], [0, 1]);
+    assert_eq!(free(&five), [1, 2, 1, 5, 0, 4]);
 }
 
 #[test]
 fn p4_253_bytes_use_two() {
-    let mut five = Box5::new();
-    five.file("A.TXT", 253);
-    assert_eq!(five.held(), [(2, 0), (3, 0), (4, 0), (0, 1), (1, 1)]);
+    let mut five = five();
+    put(&mut five, "A.TXT", 253);
+    assert_eq!(held(&five), [(2, 0), (3, 0), (4, 0), (0, 1), (1, 1)]);
 }
 
 #[test]
 fn p5_p6_1260_bytes_fit_and_one_more_does_not() {
-    let mut five = Box5::new();
-    five.named(0, OPEN_WRITE, "A.TXT").unwrap();
-    five.send(0, 1260).unwrap();
-    assert_eq!(five.send(0, 1), Err(Refusal::DiskFull));
-    assert_eq!(five.send(0, 1), Err(Refusal::DiskFull));
-    assert_eq!(five.table[1], 7);
+    let mut five = five();
+    five.create(0, &name("A.TXT"), TODAY).unwrap();
+    five.send(0, &bytes(1260)).unwrap();
+    assert_eq!(five.send(0, &[1]), Err(Refusal::DiskFull));
+    assert_eq!(five.send(0, &[1]), Err(Refusal::DiskFull));
+    assert_eq!(five.block(0)[ERROR], 7);
 }
 
 #[test]
 fn p7_a_deleted_chain_hangs_behind_the_free_chain() {
-    let mut five = Box5::new();
-    five.file("A.TXT", 252);
-    five.named(0, DELETE, "A.TXT").unwrap();
-    assert_eq!(five.held(), [(1, 0), (2, 0), (3, 0), (4, 0), (0, 0)]);
+    let mut five = five();
+    put(&mut five, "A.TXT", 252);
+    five.delete(&name("A.TXT")).unwrap();
+    assert_eq!(held(&five), [(1, 0), (2, 0), (3, 0), (4, 0), (0, 0)]);
 }
 
 #[test]
 fn a_chain_deleted_on_a_full_diskette_becomes_the_free_chain() {
-    let mut five = Box5::new();
-    five.file("A.TXT", 252);
-    five.file("B.TXT", 1008);
-    five.named(0, DELETE, "A.TXT").unwrap();
-    assert_eq!(five.free(), [1, 1, 1, 1, 0, 1]);
-    assert_eq!(five.held()[0], (0, 0));
+    let mut five = five();
+    put(&mut five, "A.TXT", 252);
+    put(&mut five, "B.TXT", 1008);
+    five.delete(&name("A.TXT")).unwrap();
+    assert_eq!(free(&five), [1, 1, 1, 1, 0, 1]);
+    assert_eq!(held(&five)[0], (0, 0));
 }
 
 #[test]
 fn p8_the_eleventh_file_finds_no_slot() {
-    let mut five = Box5::new();
-    for name in ["A.TXT", "B.TXT", "C.TXT"] {
-        five.file(name, 1);
+    let mut five = five();
+    for text in ["A.TXT", "B.TXT", "C.TXT"] {
+        put(&mut five, text, 1);
     }
-    for (fcb, name) in ["D.TXT", "E.TXT", "F.TXT", "G.TXT", "H.TXT", "I.TXT", "J.TXT"].iter().enumerate() {
-        five.named(fcb, OPEN_WRITE, name).unwrap();
+    for (fcb, text) in ["D.TXT", "E.TXT", "F.TXT", "G.TXT", "H.TXT", "I.TXT", "J.TXT"].iter().enumerate() {
+        five.create(fcb, &name(text), TODAY).unwrap();
     }
-    assert_eq!(five.named(7, OPEN_WRITE, "K.TXT"), Err(Refusal::DirectoryFull));
+    assert_eq!(five.create(7, &name("K.TXT"), TODAY), Err(Refusal::DirectoryFull));
 }
 
 #[test]
 fn p9_rename_to_itself_and_to_another_name() {
-    let mut five = Box5::new();
-    five.file("A.TXT", 1);
-    five.name(0, NEW_NAME, "A.TXT");
-    assert_eq!(five.named(0, RENAME, "A.TXT"), Err(Refusal::Exists));
-    five.name(0, NEW_NAME, "B.TXT");
-    assert_eq!(five.named(0, RENAME, "A.TXT"), Ok(0));
-    assert_eq!(five.named(0, OPEN_READ, "A.TXT"), Err(Refusal::NotFound));
-    assert_eq!(five.named(0, OPEN_READ, "B.TXT"), Ok(0));
+    let mut five = five();
+    put(&mut five, "A.TXT", 1);
+    assert_eq!(five.rename(&name("A.TXT"), &name("A.TXT")), Err(Refusal::Exists));
+    five.rename(&name("A.TXT"), &name("B.TXT")).unwrap();
+    assert_eq!(five.open(0, &name("A.TXT")), Err(Refusal::NotFound));
+    assert_eq!(five.open(0, &name("B.TXT")), Ok(()));
 }
 
 #[test]
 fn p10_delete_while_read() {
-    let mut five = Box5::new();
-    five.file("A.TXT", 1);
-    five.named(0, OPEN_READ, "A.TXT").unwrap();
-    assert_eq!(five.named(1, DELETE, "A.TXT"), Err(Refusal::InUse));
+    let mut five = five();
+    put(&mut five, "A.TXT", 1);
+    five.open(0, &name("A.TXT")).unwrap();
+    assert_eq!(five.ask_of(1, DELETE, &name("A.TXT")), Err(Refusal::InUse));
 }
 
 #[test]
 fn p11_the_length_must_fit() {
-    let mut five = Box5::new();
-    assert_eq!(five.ask(0, OPEN_DIRECTORY), Ok(0));
-    five.image.pop();
-    assert_eq!(five.ask(0, OPEN_DIRECTORY), Err(Refusal::Shape));
-    assert_eq!(survey(&five.image), Err(Refusal::CensusShape));
+    assert_eq!(five().ask(0, OPEN_DIRECTORY), Ok(()));
+    let mut short = Diskette::new(blank(1, 5)[..2559].to_vec());
+    assert_eq!(short.ask(0, OPEN_DIRECTORY), Err(Refusal::Shape));
+    assert_eq!(short.survey(), Err(Refusal::CensusShape));
 }
 
 #[test]
 fn p12_a_name_begins_with_a_letter() {
-    assert_eq!(Box5::new().named(0, OPEN_WRITE, "9A.TXT"), Err(Refusal::BadName));
+    assert_eq!(five().create(0, &name("9A.TXT"), TODAY), Err(Refusal::BadName));
 }
 
 #[test]
 fn bytes_come_back_then_zeros_then_the_end() {
-    let mut five = Box5::new();
-    five.file("A.TXT", 300);
-    five.named(0, OPEN_READ, "A.TXT").unwrap();
-    for i in 0..504 {
-        let expected = if i < 300 { i as u8 } else { 0 };
-        assert_eq!(call(&mut five.image, &mut five.table, 0, 0), Ok(expected));
-    }
-    assert_eq!(call(&mut five.image, &mut five.table, 0, 0), Err(Refusal::End));
+    let mut five = five();
+    put(&mut five, "A.TXT", 300);
+    let reading = five.get(&name("A")).unwrap();
+    assert_eq!(reading.bytes[..300], bytes(300)[..]);
+    assert_eq!(reading.bytes[300..], [0; 204]);
+    assert_eq!((reading.sectors(), reading.stopped), (2, Some(Refusal::End)));
+    assert!(reading.is_as_stated());
+}
+
+/// A has two sectors, B three: 1,1 to 1,2 and 1,3 to 1,5.
+fn two_files() -> Diskette {
+    let mut five = five();
+    put(&mut five, "A.TXT", 504);
+    put(&mut five, "B.TXT", 756);
+    five
+}
+
+#[test]
+fn a_chain_that_is_not_as_its_slot_states_is_seen() {
+    let two = two_files();
+    let offset = |sector| diskettes::offset(5, 1, sector);
+    let read = |at, bytes: &[u8]| patched(&two, at, bytes).get(&name("A.TXT")).unwrap();
+    let on = read(offset(2), &[1, 3]);
+    assert_eq!((on.sectors(), on.last, on.is_as_stated()), (5, Address::new(1, 5), false));
+    let early = read(offset(1), &[0, 0]);
+    assert_eq!((early.sectors(), early.last, early.is_as_stated()), (1, Address::new(1, 1), false));
+    let elsewhere = read(offset(1), &[1, 5]);
+    assert_eq!((elsewhere.sectors(), elsewhere.is_as_stated()), (2, false));
+    let bad = read(offset(1), &[9, 9]);
+    assert_eq!((bad.sectors(), bad.stopped, bad.is_as_stated()), (1, Some(Refusal::BadRead), false));
+    let circle = read(offset(2), &[1, 1]);
+    assert_eq!((circle.stopped, circle.is_as_stated()), (None, false));
+    assert!(two.clone().get(&name("A.TXT")).unwrap().is_as_stated());
+}
+
+#[test]
+fn slots_have_all_that_the_directory_says() {
+    let mut two = two_files();
+    two.delete(&name("A.TXT")).unwrap();
+    let slots = two.slots().unwrap();
+    assert_eq!(slots.len(), 10);
+    assert_eq!((slots[0].number, &slots[0].state), (1, &State::Deleted));
+    assert_eq!(slots[2].state, State::NeverUsed);
+    assert_eq!(slots[1].place, Place { sector: Address::new(0, 5), displacement: 40 });
+    let expected = Entry {
+        name: name("B.TXT"),
+        start: Address::new(1, 3),
+        end: Address::new(1, 5),
+        sectors: 3,
+        write_protected: false,
+        delete_protected: false,
+        date: TODAY,
+    };
+    assert_eq!(slots[1].entry(), Some(&expected));
+    assert_eq!(patched(&two, 1024, &[0, 4]).slots(), Err(Refusal::Directory));
+}
+
+#[test]
+fn sectors_are_read_whole() {
+    let mut two = two_files();
+    assert_eq!(two.sector(Address::new(1, 1)).unwrap()[..6], [1, 2, 0, 1, 0, 1]);
+    assert_eq!(two.sector(Address::new(1, 1)).unwrap().len(), SECTOR);
+    assert_eq!(two.sector(Address::new(2, 1)), Err(Refusal::BadRead));
 }
 
 #[test]

@@ -5,6 +5,9 @@
 //! every round starts from buffers that are cleared and made anew, and of all rounds the quickest counts, since what else
 //! the machine does can only slow one down. Both are called through a pointer to a function that is not inlined.
 
+#![forbid(unsafe_code)]
+
+use flex::{Diskette, Name, Refusal};
 use std::env;
 use std::process::ExitCode;
 use std::time::{Duration, Instant};
@@ -76,17 +79,18 @@ fn transfers(rounds: usize, last: usize, per: usize) {
 
 /// The times for filling a blank diskette with one file and for reading that back, and the image.
 fn fill_and_read(service: Service, last: usize, per: usize) -> ([Duration; 2], Vec<u8>) {
-    let mut image = diskettes::blank(last, per);
-    let mut table = vec![0; flex::TABLE];
-    ask(service, &mut image, &mut table, 0, flex::OPEN_WRITE);
+    let (mut image, mut table) =
+        worked(diskettes::blank(last, per), vec![0; flex::TABLE], |diskette| diskette.create(0, &name(0), DATE));
     let began = Instant::now();
     let mut sent = 0usize;
     while (service.call)(&mut image, &mut table, 0, sent as u8) == 0 {
         sent += 1;
     }
     let filled = began.elapsed();
-    ask(service, &mut image, &mut table, 0, flex::CLOSE);
-    ask(service, &mut image, &mut table, 0, flex::OPEN_READ);
+    let (mut image, mut table) = worked(image, table, |diskette| {
+        diskette.ask(0, flex::CLOSE)?;
+        diskette.open(0, &name(0))
+    });
     let began = Instant::now();
     let mut fetched = 0usize;
     loop {
@@ -101,14 +105,24 @@ fn fill_and_read(service: Service, last: usize, per: usize) -> ([Duration; 2], V
     ([filled, read], image)
 }
 
-/// A call of a function on a block with a name of its own.
-fn ask(service: Service, image: &mut [u8], table: &mut [u8], fcb: usize, function: u8) {
-    let f = fcb * flex::BLOCK;
-    table[f] = function;
-    table[f + 4..f + 15].copy_from_slice(b"FILE-A\0\0DAT");
-    table[f + 9] += fcb as u8;
-    let packed = (service.call)(image, table, fcb, 0);
-    assert_eq!(packed, 0, "function {} was refused", function);
+const DATE: [u8; 3] = [12, 3, 81];
+
+/// Each block has a name of its own.
+fn name(fcb: usize) -> Name {
+    let mut name = *b"FILE-A\0\0DAT";
+    name[5] += fcb as u8;
+    Name::of(name)
+}
+
+/// The buffers after some work that is not timed, done by the proved service for both.
+fn worked(
+    image: Vec<u8>,
+    table: Vec<u8>,
+    work: impl FnOnce(&mut Diskette) -> Result<(), Refusal>,
+) -> (Vec<u8>, Vec<u8>) {
+    let mut diskette = Diskette::of_buffers(image, table);
+    work(&mut diskette).expect("a blank diskette takes files");
+    diskette.into_buffers()
 }
 
 fn censuses(rounds: usize, last: usize, per: usize) {
@@ -146,20 +160,17 @@ fn census(service: Service, image: &[u8], data_sectors: usize) -> (Duration, Vec
 /// Eight files written at the same time, so that their sectors alternate, until half of the diskette is in use. Those that got
 /// no sector are deleted by their close.
 fn half_full(last: usize, per: usize) -> Vec<u8> {
-    let mut image = diskettes::blank(last, per);
-    let mut table = vec![0; flex::TABLE];
-    for fcb in 0..flex::BLOCKS {
-        ask(PLAIN, &mut image, &mut table, fcb, flex::OPEN_WRITE);
-    }
-    for sector in 0..last * per / 2 {
-        for i in 0..252 {
-            (PLAIN.call)(&mut image, &mut table, sector % flex::BLOCKS, i);
+    let bytes: Vec<u8> = (0..252).collect();
+    let work = |diskette: &mut Diskette| {
+        for fcb in 0..flex::BLOCKS {
+            diskette.create(fcb, &name(fcb), DATE)?;
         }
-    }
-    for fcb in 0..flex::BLOCKS {
-        ask(PLAIN, &mut image, &mut table, fcb, flex::CLOSE);
-    }
-    image
+        for sector in 0..last * per / 2 {
+            diskette.send(sector % flex::BLOCKS, &bytes)?;
+        }
+        (0..flex::BLOCKS).try_for_each(|fcb| diskette.ask(fcb, flex::CLOSE))
+    };
+    worked(diskettes::blank(last, per), vec![0; flex::TABLE], work).0
 }
 
 fn print_row(what: &str, sectors: usize, proved: Duration, plain: Duration) {

@@ -1,0 +1,116 @@
+# Files are put, read back, listed, renamed and deleted, and what the service refuses.
+
+fresh
+does list disk
+for name in NORTH.TXT SOUTH.TXT POWER.TXT; do shows "$name"; done
+does census disk
+shows "A  NORTH.TXT"
+shows ".  free"
+cmp disk "$demo"
+
+# ---- a file is put, read back, renamed, deleted
+seq 1 300 >lines
+does put disk NIGHT.TXT <lines
+does list disk
+shows NIGHT.TXT
+does census disk
+does get --trim disk NIGHT.TXT
+cmp out lines
+does get disk NIGHT.TXT
+[ $(($(wc -c <out) % 252)) = 0 ] || fail "get gave no whole sectors"
+head -c "$(wc -c <lines)" out | cmp - lines
+does rename disk NIGHT.TXT DAY_2.OLD
+does list disk
+shows DAY_2.OLD
+hides NIGHT.TXT
+does get disk DAY_2.OLD --trim
+cmp out lines
+does delete disk DAY_2.OLD
+does list disk
+hides DAY_2.OLD
+does census disk
+shows "A  NORTH.TXT"
+
+# ---- every byte comes back, and TXT is the extension of a name without one
+fresh
+for i in $(seq 0 255); do printf "\\$(printf %03o "$i")"; done >bytes
+does put disk BYTES <bytes
+does get disk BYTES.TXT
+head -c 256 out | cmp - bytes
+[ "$(wc -c <out)" = 504 ] || fail "256 bytes are not two sectors"
+
+# ---- refusals of the service
+fresh
+refuses 1 "DISK ERROR #003" put disk NORTH.TXT <lines
+refuses 1 "DISK ERROR #021" put disk 9A.TXT <lines
+refuses 1 "DISK ERROR #021" put disk A.T.T <lines
+refuses 1 "DISK ERROR #004" get disk north.txt
+refuses 1 "DISK ERROR #004" delete disk NONE.TXT
+refuses 1 "DISK ERROR #004" rename disk NONE.TXT ONE.TXT
+refuses 1 "DISK ERROR #003" rename disk NORTH.TXT NORTH.TXT
+refuses 1 "DISK ERROR #003" rename disk NORTH.TXT POWER.TXT
+refuses 1 "DISK ERROR #021" rename disk NORTH.TXT NORTH
+refuses 1 "DISK ERROR #021" rename disk NORTH.TXT -A.TXT
+head -c 100000 /dev/zero >large
+refuses 1 "DISK ERROR #007" put disk LARGE.TXT <large
+
+# ---- protected files: attributes, byte 11 of a slot
+fresh
+patch $(($(slot 2) + 11)) 128
+does list disk
+shows write
+refuses 1 "DISK ERROR #011" delete disk NORTH.TXT
+refuses 1 "DISK ERROR #011" rename disk NORTH.TXT A.TXT
+does get disk NORTH.TXT
+patch $(($(slot 2) + 11)) 192
+refuses 1 "DISK ERROR #012" delete disk NORTH.TXT
+patch $(($(slot 2) + 11)) 64
+refuses 1 "DISK ERROR #012" delete disk NORTH.TXT
+does rename disk NORTH.TXT A.TXT
+
+# ---- several files, from files and to files; all of them or none
+fresh
+mkdir logs
+printf 'one\n' >logs/ONE.TXT
+printf 'two\n' >logs/TWO.TXT
+printf 'three\n' >three
+does put --files disk logs/ONE.TXT logs/TWO.TXT
+does put disk THREE.LOG=three
+does get --trim disk ONE.TXT=one TWO.TXT=two
+cmp one logs/ONE.TXT
+cmp two logs/TWO.TXT
+does get --trim --files disk THREE.LOG
+cmp THREE.LOG three
+refuses 3 "three: it is there already" get disk THREE.LOG=three
+refuses 3 "the image itself" get --replace disk THREE.LOG=disk
+does get --replace --trim disk ONE.TXT=three
+cmp three logs/ONE.TXT
+refuses 1 "DISK ERROR #003" put disk FOUR.TXT=three ONE.TXT=three
+refuses 1 "DISK ERROR #004" get disk ONE.TXT=five NONE.TXT=six
+[ ! -e five ] || fail "a refused get made a file"
+refuses 2 "several files need" put disk A.TXT B.TXT
+refuses 2 "named twice" put disk A.TXT=one A=two
+refuses 3 "nowhere" put disk A.TXT=nowhere
+
+# ---- a file is replaced, and stays where the new one finds no room or may not replace it
+does put --replace disk ONE.TXT <lines
+does get --trim disk ONE.TXT
+cmp out lines
+does put --replace disk NEW.TXT <lines
+refuses 1 "DISK ERROR #007" put --replace disk ONE.TXT <large
+refuses 2 "standard input is empty" put --replace disk ONE.TXT </dev/null
+does get --trim disk ONE.TXT
+cmp out lines
+does census disk
+patch $(($(slot 2) + 11)) 64
+refuses 1 "DISK ERROR #012" put --replace disk NORTH.TXT <lines
+
+# ---- the date of a new file is today's, by the local time
+fresh
+for zone in A-14 B+12 UTC0; do
+    before=$(TZ=$zone date +%m-%d-%y)
+    TZ=$zone does put --replace disk TODAY.TXT <lines
+    after=$(TZ=$zone date +%m-%d-%y)
+    does list disk
+    grep TODAY.TXT out | grep -qF -e "$before" -e "$after" || fail "TZ=$zone: not today: $(grep TODAY.TXT out)"
+done

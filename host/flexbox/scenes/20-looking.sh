@@ -1,0 +1,84 @@
+# info, dump, JSON, help and usage.
+
+fresh
+does info disk
+shows "tracks 0 to 4 (M), 8 sectors a track (S)"
+shows "19 sectors from 2,8 to 1,2"
+shows "label    none"
+patch 528 77 65 73 78 32 49
+patch 539 1 2
+patch 547 12 3 81
+does info disk
+shows "label    MAIN 1"
+shows "volume   258"
+shows "made     12-03-81"
+does info --json disk
+shows '"label":"MAIN 1","volume":258,"date":{"month":12,"day":3,"year":81},"free":19'
+
+does dump disk 0,3
+shows "20  02 00 13 0c 03 51 04 08"
+does dump disk 1,3
+shows "00  01 06 00 01"
+refuses 1 "DISK ERROR #009" dump disk 5,1
+refuses 1 "DISK ERROR #009" dump disk 0,0
+refuses 2 "track,sector" dump disk 5
+refuses 2 "track,sector" dump disk 1,256
+
+# ---- JSON is JSON, whatever the image is called, wherever there is something to read it with
+fresh
+cp disk 'a "quoted"\name'
+for command in list info check census; do
+    does "$command" --json 'a "quoted"\name'
+    if command -v python3 >/dev/null; then
+        python3 -c 'import json, sys; assert json.load(sys.stdin)["image"] == sys.argv[1]' 'a "quoted"\name' <out ||
+            fail "$command --json is no JSON: $(cat out)"
+    fi
+done
+does list --json disk
+shows '"slot":2,"directory_sector":[0,5],"displacement":40,"name":"NORTH.TXT","sectors":5,"start":[1,3],"end":[2,4]'
+does census --json disk
+shows '{"sector":[2,8],"owner":0}'
+shows '{"sector":[1,6],"owner":2}'
+
+# ---- what is no diskette
+head -c 1000 "$demo" >disk
+refuses 1 "DISK ERROR #016" list disk
+refuses 1 "DISK ERROR #041" census disk
+refuses 1 "DISK ERROR #041" check disk
+refuses 1 "DISK ERROR #041" put disk A.TXT <"$demo"
+refuses 1 "DISK ERROR #041" put --force disk A.TXT <"$demo"
+: >disk
+refuses 1 "DISK ERROR #016" list disk
+refuses 1 "DISK ERROR #041" census disk
+fresh
+printf x >>disk
+refuses 1 "DISK ERROR #041" delete disk NORTH.TXT
+rm disk
+refuses 3 "disk" list disk
+refuses 3 "disk" put disk A.TXT <"$demo"
+
+# ---- help, and one line for a usage error
+fresh
+does help
+shows "usage:"
+does --version
+shows "flexbox "
+for command in list info check census get put delete rename dump report; do
+    does help "$command"
+    shows "usage: flexbox $command "
+    does "$command" --help
+    shows "usage: flexbox $command "
+done
+refuses 2 "no command"
+refuses 2 "no command 'format'" format disk
+refuses 2 "no command 'format'" help format
+refuses 2 "wrong number of words" list
+refuses 2 "wrong number of words" list disk disk
+refuses 2 "wrong number of words" rename disk NORTH.TXT
+refuses 2 "no such option '--all'" get --all disk NORTH.TXT
+refuses 2 "no such option '--force'" list --force disk
+refuses 2 "number of seconds" list --wait soon disk
+[ "$(wc -l <err)" = 1 ] || fail "a usage error has more than one line"
+refuses 2 "at most 8 characters" get disk NINECHARS.TXT
+refuses 2 "at most 3" delete disk A.TEXT
+refuses 2 "standard input is empty" put disk A.TXT </dev/null

@@ -1,0 +1,108 @@
+# Damaged diskettes: nothing changes them, what is wrong is said with its place, and a damaged file is not given as if it were sound.
+
+printf 'bytes\n' >lines
+
+# unchanged NUMBER: no command changes the diskette, which the census refuses so
+unchanged() {
+    refuses 1 "DISK ERROR #0$1" put disk NEW.TXT <lines
+    says "--force would change it"
+    refuses 1 "DISK ERROR #0$1" put --replace disk NORTH.TXT <lines
+    refuses 1 "DISK ERROR #0$1" delete disk POWER.TXT
+    refuses 1 "DISK ERROR #0$1" rename disk POWER.TXT A.TXT
+    refuses 1 "DISK ERROR #0$1" census disk
+    ends 1 "" check disk
+    shows "DAMAGED"
+    shows "DISK ERROR #0$1"
+}
+
+# ---- the free chain begins in a file: a new file would overwrite it
+fresh
+patch 541 1 3
+unchanged 44
+ends 1 "" check disk
+shows "44 the free chain: "
+shows "46 5 sectors (1,3; 1,6; 1,8; 2,2; 2,4) are held by the free chain and by NORTH.TXT (slot 2, at 0,5 byte 40)"
+
+# ---- a hole in the directory: a second file of one name would be made behind it
+fresh
+patch "$(slot 2)" 0
+unchanged 43
+ends 1 "" check disk
+shows "43 SOUTH.TXT (slot 3, at 0,5 byte 64): live behind slot 2, which was never used"
+
+# ---- two files of one name
+fresh
+patch "$(slot 3)" 78 79 82 84 72
+unchanged 43
+ends 1 "" check disk
+shows "43 NORTH.TXT (slot 2, at 0,5 byte 40) and slot 3 have one name"
+refuses 1 "DISK ERROR #043" get disk NORTH.TXT
+
+# ---- two files share their last sector: a delete would free a sector of the other
+fresh
+patch "$(sector 2 2)" 2 7
+patch $(($(slot 2) + 15)) 2 7
+unchanged 46
+ends 1 "" check disk
+shows "46 sector 2,7 is held by NORTH.TXT (slot 2, at 0,5 byte 40) and by POWER.TXT (slot 4, at 0,5 byte 88)"
+shows "46 sector 2,4 is in no chain"
+ends 1 "" check --json disk
+shows '"verdict":46'
+shows '"number":46,"text":"sector 2,7 is held by'
+shows '"slots":[2,4],"sectors":[[2,7]]'
+ends 1 "DISK ERROR #046" census --json disk
+shows '"verdict":46,"sectors":[]'
+refuses 1 "DISK ERROR #046" get disk POWER.TXT
+says "sector 2,7 is held by"
+
+# ---- the free count, a start that is no address, a chain in a circle, the directory
+fresh
+patch 546 1
+unchanged 44
+fresh
+patch $(($(slot 2) + 13)) 0 1
+unchanged 45
+refuses 1 "DISK ERROR #045" get disk NORTH.TXT
+says "its start 0,1 is no data sector"
+fresh
+patch "$(sector 1 3)" 1 3
+unchanged 45
+refuses 1 "DISK ERROR #045" get disk NORTH.TXT
+says "has no end"
+fresh
+patch $((4 * 256)) 0 4
+unchanged 42
+refuses 1 "DISK ERROR #005" list disk
+ends 1 "" check disk
+shows "42 directory: its sector 0,5 links to 0,4, which is not on track 0 in sectors 5 to 8"
+
+# ---- a chain that runs on into another file, or ends early, is no file to trust
+fresh
+patch "$(sector 2 4)" 2 6
+refuses 1 "DISK ERROR #045" get disk NORTH.TXT
+says "5 sectors to 2,4, and 7 were read, to 2,7"
+refuses 1 "DISK ERROR #045" get disk NORTH.TXT=north
+[ ! -e north ] || fail "a refused get made a file"
+ends 1 "given all the same by --force" get --force disk NORTH.TXT
+[ "$(wc -c <out)" = $((7 * 252)) ] || fail "--force did not give all bytes"
+warns "damaged, but not in this file" get disk SOUTH.TXT
+fresh
+patch "$(sector 1 6)" 0 0
+refuses 1 "DISK ERROR #045" get disk NORTH.TXT
+says "2 were read, to 1,6"
+ends 1 "given all the same by --force" get --force disk NORTH.TXT
+[ "$(wc -c <out)" = $((2 * 252)) ] || fail "--force did not give the bytes that are there"
+fresh
+patch $(($(slot 2) + 18)) 4
+refuses 1 "DISK ERROR #045" get disk NORTH.TXT
+
+# ---- --force changes a damaged diskette, and says so before and after
+fresh
+patch "$(sector 1 6)" 0 0
+warns "damaged, and changed all the same by --force" put --force disk NEW.TXT <lines
+says "saved by --force; its census: 045"
+does list disk
+shows NEW.TXT
+warns "damaged, and changed all the same by --force" delete --force disk NORTH.TXT
+fresh
+does put --force disk NEW.TXT <lines

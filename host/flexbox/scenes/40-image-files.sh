@@ -1,0 +1,86 @@
+# What flexbox does to the files of this machine: links, owners, modes, what is too large or no file at all.
+
+printf 'bytes\n' >lines
+
+# ---- a link stays a link, the mode stays, and nothing is left behind
+fresh
+chmod 640 disk
+ln -s disk link
+does delete link NORTH.TXT
+[ -L link ] || fail "the link was replaced"
+[ "$(stat -c %a disk)" = 640 ] || fail "the mode changed"
+does list disk
+hides NORTH.TXT
+rm link
+
+# ---- the owner stays
+if [ "$(id -u)" = 0 ]; then
+    fresh
+    chown 4321:8765 disk
+    chmod 2664 disk
+    does put disk NEW.TXT <lines
+    [ "$(stat -c %u:%g:%a disk)" = 4321:8765:2664 ] || fail "owner and mode are now $(stat -c %u:%g:%a disk)"
+
+    # ---- who can't keep the owner does not change the image
+    other=(setpriv --reuid 4321 --regid 4321 --clear-groups)
+    chmod 755 "$top"
+    chmod 777 .
+    if "${other[@]}" "${flexbox[@]}" --version >/dev/null 2>&1; then
+        fresh
+        chmod 666 disk
+        touch out err
+        chmod 666 out err
+        flexbox=("${other[@]}" "${flexbox[@]}")
+        refuses 3 "disk: its owner and mode can't be given to the new image" put disk NEW.TXT <lines
+        chmod 644 disk
+        refuses 3 "disk: Permission denied" put disk NEW.TXT <lines
+        does list disk
+        flexbox=("${flexbox[@]:${#other[@]}}")
+    else
+        echo "flexbox: another user can't run it here: that an owner who can't be kept is a refusal was not tried"
+    fi
+else
+    echo "flexbox: not root: that another owner of an image is kept was not tried"
+fi
+
+# ---- a read-only file is a diskette with its write-protect tab, for root too
+fresh
+chmod 444 disk
+refuses 3 "write-protect tab" put disk NEW.TXT <lines
+refuses 3 "write-protect tab" delete disk NORTH.TXT
+refuses 3 "write-protect tab" put --force disk NEW.TXT <lines
+does list disk
+does check disk
+chmod 644 disk
+
+# ---- a second name of the same file would keep the old image
+ln disk second
+refuses 3 "2 hard links" put disk NEW.TXT <lines
+does get disk NORTH.TXT
+rm second
+does put disk NEW.TXT <lines
+
+# ---- what never ends, or is too large, or is no regular file
+refuses 3 "standard input: more than 737,280 bytes" put disk ZERO.TXT </dev/zero
+refuses 3 "/dev/zero: more than 737,280 bytes" put disk ZERO.TXT=/dev/zero
+refuses 3 "/dev/zero: not a regular file" list /dev/zero
+refuses 3 "/dev/zero: not a regular file" put /dev/zero A.TXT <lines
+mkfifo pipe
+refuses 3 "pipe: not a regular file" list pipe
+refuses 3 "pipe: not a regular file" put pipe A.TXT <lines
+mkdir folder
+refuses 3 "folder: not a regular file" list folder
+refuses 3 "folder" put disk A.TXT=folder
+rm disk
+truncate -s 200G huge
+refuses 1 "DISK ERROR #016: not the image of a diskette, or drive not 0 (huge, more than 737,280 bytes)" list huge
+refuses 1 "DISK ERROR #041" check huge
+refuses 1 "DISK ERROR #041" put huge A.TXT <lines
+rm huge
+
+# ---- messages name the file that is meant, and a name of the greatest length is one
+fresh
+long=$(printf 'd%.0s' $(seq 255))
+mv disk "$long"
+does put "$long" NEW.TXT <lines
+rm "$long"

@@ -1,0 +1,56 @@
+# Several at once: the image is locked from before it is read until the new one is in its place.
+
+# put_late NUMBER NAME: waits for the lock as long as it must; messages and status go to files
+put_late() {
+    local status=0
+    echo "log $1" | "${flexbox[@]}" put --wait 60 disk "$2" >"out$1" 2>"err$1" || status=$?
+    echo $status >"status$1"
+}
+
+# ---- of eight that put at once, all eight files are there
+fresh
+for i in 1 2 3 4 5 6 7 8; do
+    put_late "$i" "LOG$i.TXT" &
+done
+wait
+does list disk
+for i in 1 2 3 4 5 6 7 8; do
+    [ "$(cat "status$i")" = 0 ] || fail "put $i of eight: $(cat "err$i")"
+    shows "LOG$i.TXT"
+done
+does check disk
+
+# ---- while another program has the lock: wait, say so, give up with status 4
+if command -v flock >/dev/null; then
+    fresh
+    exec 9<disk
+    flock 9
+    refuses 4 "another program still has it locked after 1 s" put --wait 1 disk NEW.TXT <"$demo"
+    says "waiting up to 1 s"
+    refuses 4 "another program still has it locked after 0 s" delete --wait 0 disk NORTH.TXT
+    refuses 4 "another program" list --wait 0 disk
+
+    # ---- who waited for an image that was replaced meanwhile changes the new one
+    cp disk other
+    does delete other NORTH.TXT
+    put_late 9 LATE.TXT &
+    until grep -qs "waiting up to 60 s" err9; do sleep 0.05; done
+    mv other disk
+    flock -u 9
+    wait
+    [ "$(cat status9)" = 0 ] || fail "the late put: $(cat err9)"
+    does list disk
+    shows LATE.TXT
+    hides NORTH.TXT
+
+    # ---- those who only look do not keep each other out, and keep a change out until they are done
+    exec 9<disk
+    flock -s 9
+    does list --wait 0 disk
+    refuses 4 "another program" delete --wait 0 disk SOUTH.TXT
+    flock -u 9
+    exec 9<&-
+    does delete --wait 0 disk SOUTH.TXT
+else
+    echo "flexbox: no flock here: only eight puts at once were tried"
+fi

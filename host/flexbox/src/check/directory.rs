@@ -1,0 +1,61 @@
+//! The directory's own links (42) and the names in it (43).
+
+use super::sectors::file;
+use super::Finding;
+use flex::{Address, Shape, Slot, State};
+
+/// The directory's sectors as far as its links are right, and what is not right about them.
+pub fn walk(image: &[u8], shape: Shape) -> (Vec<Address>, Vec<Finding>) {
+    let mut sectors = vec![Address::new(0, 5)];
+    let mut at = sectors[0];
+    loop {
+        let next = Address::at(image, shape.offset(at));
+        if next == Address::NONE {
+            return (sectors, vec![]);
+        }
+        if let Some(why) = wrong(shape, &sectors, next) {
+            let text = format!("directory: its sector {} links to {}, {}", at, next, why);
+            return (sectors, vec![Finding { number: 42, slots: vec![], sectors: vec![at], text }]);
+        }
+        sectors.push(next);
+        at = next;
+    }
+}
+
+fn wrong(shape: Shape, before: &[Address], next: Address) -> Option<String> {
+    if next.track != 0 || !(5..=shape.per).contains(&next.sector) {
+        return Some(format!("which is not on track 0 in sectors 5 to {}", shape.per));
+    }
+    before.contains(&next).then(|| "back to a sector before it".to_string())
+}
+
+/// Live slots that a search does not reach, and files of one name.
+pub fn names(slots: &[Slot]) -> Vec<Finding> {
+    let mut findings = behind_a_never_used_one(slots);
+    for (i, slot) in slots.iter().enumerate() {
+        let twin = |earlier: &&Slot| matches!((earlier.entry(), slot.entry()), (Some(a), Some(b)) if a.name == b.name);
+        if let Some(earlier) = slots[..i].iter().find(twin) {
+            let text = format!("{} and slot {} have one name", file(earlier), slot.number);
+            findings.push(finding(vec![earlier, slot], text));
+        }
+    }
+    findings
+}
+
+fn behind_a_never_used_one(slots: &[Slot]) -> Vec<Finding> {
+    let hole = match slots.iter().position(|slot| slot.state == State::NeverUsed) {
+        Some(hole) => hole,
+        None => return vec![],
+    };
+    let live = slots[hole..].iter().filter(|slot| slot.entry().is_some());
+    live.map(|slot| {
+        let text = format!("{}: live behind slot {}, which was never used: no search reaches it", file(slot), hole + 1);
+        finding(vec![slot], text)
+    })
+    .collect()
+}
+
+fn finding(slots: Vec<&Slot>, text: String) -> Finding {
+    let sectors = slots.iter().map(|slot| slot.place.sector).collect();
+    Finding { number: 43, slots: slots.iter().map(|slot| slot.number).collect(), sectors, text }
+}

@@ -1,0 +1,99 @@
+//! Where a diskette is damaged. The verdict is the proved census's alone; this finds, from the directory that the service shows
+//! and the links of the image, every place that such a verdict can come from: which slot, which file, which sector, and who
+//! shares it.
+
+mod chain;
+mod directory;
+mod sectors;
+
+pub use sectors::Owner;
+
+use chain::Chain;
+use flex::{Address, Diskette, Refusal, Shape, Slot};
+use std::fmt;
+
+/// One thing that is not right.
+#[derive(Clone, Debug, PartialEq, Eq)]
+pub struct Finding {
+    /// 42 to 46: which rule of the census it breaks.
+    pub number: u8,
+    /// The slots of the files that it concerns.
+    pub slots: Vec<usize>,
+    /// The sectors where it is.
+    pub sectors: Vec<Address>,
+    pub text: String,
+}
+
+impl fmt::Display for Finding {
+    fn fmt(&self, f: &mut fmt::Formatter<'_>) -> fmt::Result {
+        f.write_str(&self.text)
+    }
+}
+
+/// All that is known of a diskette of the right shape.
+pub struct Check {
+    pub shape: Shape,
+    /// What the proved census says.
+    pub verdict: Result<(), Refusal>,
+    /// In the order of the census's rules. Empty if the verdict is good.
+    pub findings: Vec<Finding>,
+    /// Empty if the directory is not right: then the service does not list them.
+    pub slots: Vec<Slot>,
+    /// The directory's sectors as far as its links are right.
+    pub directory: Vec<Address>,
+    /// The free chain and the files', each with its sectors as far as its links are right.
+    pub chains: Vec<(Owner, Vec<Address>)>,
+}
+
+/// Looks at the whole diskette. Refused is only what is no image of a diskette (41).
+pub fn check(diskette: &mut Diskette) -> Result<Check, Refusal> {
+    let verdict = match diskette.survey() {
+        Err(Refusal::CensusShape) => return Err(Refusal::CensusShape),
+        verdict => verdict.map(|_| ()),
+    };
+    let shape = Shape::stated(diskette.image()).ok_or(Refusal::CensusShape)?;
+    let slots = diskette.slots().unwrap_or_default();
+    let image = diskette.image();
+    let (directory, mut findings) = directory::walk(image, shape);
+    let directory_is_right = findings.is_empty();
+    findings.extend(directory::names(&slots));
+    let mut chains = Vec::new();
+    for chain in stated(image, &slots) {
+        let walked = chain.walk(image, shape);
+        findings.extend(walked.fault.map(|fault| chain.finding(fault, &slots)));
+        chains.push((chain.owner, walked.sectors));
+    }
+    let owners = sectors::owners(shape, &chains);
+    findings.extend(sectors::shared(shape, &owners, &slots));
+    if directory_is_right {
+        findings.extend(sectors::lost(shape, &owners));
+    }
+    Ok(Check { shape, verdict, findings, slots, directory, chains })
+}
+
+/// The free chain, then the live files', as they are stated.
+fn stated(image: &[u8], slots: &[Slot]) -> Vec<Chain> {
+    let files = slots.iter().filter_map(|slot| {
+        let entry = slot.entry()?;
+        Some(Chain { owner: Owner::File(slot.number), start: entry.start, end: entry.end, count: entry.sectors })
+    });
+    [Chain::free(image)].into_iter().chain(files).collect()
+}
+
+impl Check {
+    /// What concerns the file of this slot.
+    pub fn of_slot(&self, number: usize) -> impl Iterator<Item = &Finding> {
+        self.findings.iter().filter(move |finding| finding.slots.contains(&number))
+    }
+
+    pub fn free_sectors(&self) -> usize {
+        self.chains.iter().filter(|(owner, _)| *owner == Owner::Free).map(|(_, sectors)| sectors.len()).sum()
+    }
+
+    pub fn files(&self) -> usize {
+        self.slots.iter().filter(|slot| slot.entry().is_some()).count()
+    }
+}
+
+#[cfg(test)]
+mod tests;

@@ -1,0 +1,106 @@
+//! The findings beside the proved verdict: on thousands of damaged diskettes the first finding breaks the very rule that
+//! the census names, and a diskette that the census accepts has none.
+
+use super::*;
+use diskettes::{blank, offset};
+
+/// Numbers that look random and are the same every time.
+struct Numbers(u64);
+
+impl Numbers {
+    fn below(&mut self, limit: usize) -> usize {
+        self.0 ^= self.0 << 13;
+        self.0 ^= self.0 >> 7;
+        self.0 ^= self.0 << 17;
+        (self.0 % limit as u64) as usize
+    }
+
+    fn one_of<T: Copy>(&mut self, list: &[T]) -> T {
+        list[self.below(list.len())]
+    }
+}
+
+/// A.TXT has two sectors, B.TXT three, C.TXT one; one was deleted.
+fn in_use(last: usize, per: usize) -> Vec<u8> {
+    let mut diskette = Diskette::new(blank(last, per));
+    for (name, sectors) in [("A", 2), ("OLD", 1), ("B", 3), ("C", 1)] {
+        diskette.put(&name.parse().unwrap(), &vec![7; sectors * 252], [1, 2, 3]).unwrap();
+    }
+    diskette.delete(&"OLD".parse().unwrap()).unwrap();
+    diskette.image().to_vec()
+}
+
+/// One or two bytes changed where it hurts.
+fn damage(image: &mut [u8], numbers: &mut Numbers, last: usize, per: usize) {
+    let address =
+        [numbers.one_of(&[0, 1, 1, last, last + 1]) as u8, numbers.one_of(&[0, 1, 2, 3, 4, 5, per, per + 1]) as u8];
+    let slot = 1024 + 16 + 24 * numbers.below(5);
+    let (track, sector) = (1 + numbers.below(last), 1 + numbers.below(per));
+    match numbers.below(8) {
+        0 => image[541 + 2 * numbers.below(2)..][..2].copy_from_slice(&address),
+        1 => image[545 + numbers.below(2)] = numbers.below(9) as u8,
+        2 => image[slot] = numbers.one_of(b"\0\xffABC"),
+        3 => image[slot + 13 + 2 * numbers.below(2)..][..2].copy_from_slice(&address),
+        4 => image[slot + 17 + numbers.below(2)] = numbers.below(6) as u8,
+        5 => image[offset(per, 0, 5 + numbers.below(per - 4))..][..2].copy_from_slice(&[0, address[1]]),
+        _ => image[offset(per, track, sector)..][..2].copy_from_slice(&address),
+    }
+}
+
+#[test]
+fn the_first_finding_is_the_verdict() {
+    let mut numbers = Numbers(0x2545_f491_4f6c_dd1d);
+    let mut seen = [0; 47];
+    for _ in 0..40_000 {
+        let (last, per) = numbers.one_of(&[(2, 5), (1, 9), (3, 6), (2, 8)]);
+        let mut image = in_use(last, per);
+        for _ in 0..1 + numbers.below(3) {
+            damage(&mut image, &mut numbers, last, per);
+        }
+        let check = check(&mut Diskette::new(image)).unwrap();
+        let verdict = check.verdict.map_or_else(Refusal::number, |()| 0);
+        assert_eq!(check.findings.first().map_or(0, |first| first.number), verdict, "{:?}", check.findings);
+        assert!(check.findings.windows(2).all(|pair| pair[0].number <= pair[1].number));
+        seen[verdict as usize] += 1;
+    }
+    for verdict in [0, 42, 43, 44, 45, 46] {
+        assert!(seen[verdict] > 100, "{} only {} times", verdict, seen[verdict]);
+    }
+}
+
+/// What is said of the five-sector diskette with A in 1,1 1,2 and B in 1,3 1,4 1,5 after these bytes are stored.
+fn said(stores: &[(usize, &[u8])]) -> Vec<String> {
+    let mut diskette = Diskette::new(blank(1, 5));
+    diskette.put(&"A".parse().unwrap(), &[7; 504], [1, 2, 3]).unwrap();
+    diskette.put(&"B".parse().unwrap(), &[7; 756], [1, 2, 3]).unwrap();
+    let mut image = diskette.image().to_vec();
+    for (at, bytes) in stores {
+        image[*at..at + bytes.len()].copy_from_slice(bytes);
+    }
+    check(&mut Diskette::new(image)).unwrap().findings.iter().map(|finding| finding.text.clone()).collect()
+}
+
+#[test]
+fn a_finding_says_where() {
+    let (one, two) = (offset(5, 1, 1), offset(5, 1, 2));
+    let a = "A.TXT (slot 1, at 0,5 byte 16)";
+    let b = "B.TXT (slot 2, at 0,5 byte 40)";
+    assert_eq!(said(&[]), Vec::<String>::new());
+    let short = said(&[(one, &[0, 0])]);
+    assert_eq!(short, [format!("{}: ends at 1,1, after 1 of 2 sectors", a), "sector 1,2 is in no chain".to_string()]);
+    assert_eq!(said(&[(two, &[1, 4])]), [format!("{}: runs on: sector 2 of 2, at 1,2, links to 1,4", a)]);
+    assert!(said(&[(one, &[9, 9])])[0].ends_with("sector 1 of 2, at 1,1, links to 9,9, which is no data sector"));
+    assert!(said(&[(one, &[1, 1])])[0].ends_with("sector 1 of 2, at 1,1, links back to 1,1"));
+    let both = said(&[(one, &[1, 5]), (1024 + 16 + 15, &[1, 5])]);
+    assert_eq!(both, [format!("sector 1,5 is held by {} and by {}", a, b), "sector 1,2 is in no chain".to_string()]);
+    let twins = said(&[(1024 + 40, b"A")]);
+    assert_eq!(twins, ["A.TXT (slot 1, at 0,5 byte 16) and slot 2 have one name"]);
+    let hole = said(&[(1024 + 16, &[0])]);
+    assert_eq!(hole[0], format!("{}: live behind slot 1, which was never used: no search reaches it", b));
+    assert_eq!(hole[1], "2 sectors (1,1 to 1,2) are in no chain");
+    let loose = said(&[(1024, &[0, 5])]);
+    assert_eq!(loose, ["directory: its sector 0,5 links to 0,5, back to a sector before it"]);
+    let free = said(&[(541, &[1, 3]), (546, &[1])]);
+    assert_eq!(free[0], "the free chain: sector 1 of 1 is at 1,3, but its stated end is 0,0");
+    assert_eq!(free[1], format!("sector 1,3 is held by the free chain and by {}", b));
+}

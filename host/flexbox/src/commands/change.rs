@@ -1,0 +1,110 @@
+//! What every command that changes an image has in common: lock, census, work, census, save.
+//!
+//! A diskette that the census refuses is not changed: sound files could be lost. `--force` is for those who know.
+
+use super::{refused, refused_of};
+use crate::check;
+use crate::failure::{note, Failure};
+use crate::image::Image;
+use crate::words::Words;
+use flex::{Diskette, Refusal};
+use std::path::Path;
+
+/// How many findings are told before the rest is only counted.
+const TOLD: usize = 8;
+
+/// A change of the image that is saved only if no part of it was refused and the census accepts what comes out.
+pub fn change(words: &Words, work: impl FnOnce(&mut Diskette) -> Result<(), Failure>) -> Result<(), Failure> {
+    let image = Image::take(words.image(), words.wait())?;
+    let mut diskette = Diskette::new(image.read()?);
+    let was_sound = accept(words, &mut diskette)?;
+    work(&mut diskette)?;
+    match diskette.survey() {
+        Ok(_) => {}
+        Err(refusal) if was_sound => {
+            return Err(refused(words.image(), "after the change, which is therefore not saved")(refusal));
+        }
+        Err(refusal) => note(&format!("{}: saved by --force; its census: {}", words.image().display(), refusal)),
+    }
+    image.save(diskette.image())
+}
+
+/// Whether the census accepts the diskette as it is. Where it does not, only `--force` goes on, and says so.
+fn accept(words: &Words, diskette: &mut Diskette) -> Result<bool, Failure> {
+    let refusal = match diskette.survey() {
+        Ok(_) => return Ok(true),
+        Err(refusal) => refusal,
+    };
+    let failure = refused_of(words, diskette)(refusal);
+    if refusal == Refusal::CensusShape {
+        return Err(failure);
+    }
+    failure.say();
+    say_where(words.image(), diskette);
+    let name = words.image().display();
+    if words.has("--force") {
+        note(&format!("{}: damaged, and changed all the same by --force: sound files may be lost", name));
+        return Ok(false);
+    }
+    note(&format!("{}: not changed, since that could destroy sound files; --force would change it", name));
+    Err(Failure::Shown)
+}
+
+/// Tells the places of the damage on standard error.
+pub fn say_where(image: &Path, diskette: &mut Diskette) {
+    if let Ok(check) = check::check(diskette) {
+        for finding in check.findings.iter().take(TOLD) {
+            eprintln!("  {} {}", finding.number, finding);
+        }
+        if check.findings.len() > TOLD {
+            eprintln!("  and {} more: flexbox check {}", check.findings.len() - TOLD, image.display());
+        }
+    }
+}
+
+/// `delete`
+pub fn delete(words: &Words) -> Result<(), Failure> {
+    let text = words.text(0)?;
+    let name = super::typed(text)?;
+    change(words, |diskette| diskette.delete(&name).map_err(refused(words.image(), text)))
+}
+
+/// `rename`
+pub fn rename(words: &Words) -> Result<(), Failure> {
+    let (old, new) = (words.text(0)?, words.text(1)?);
+    let (from, to) = (super::typed(old)?, super::typed(new)?);
+    let what = format!("{} to {}", old, new);
+    change(words, |diskette| diskette.rename(&from, &to).map_err(refused(words.image(), &what)))
+}
+
+#[cfg(test)]
+mod tests {
+    use super::*;
+    use crate::commands::find;
+    use std::{env, fs, process};
+
+    /// Changes a sound diskette to this one; what is in the file then, and whether it was refused.
+    fn changed_to(test: &str, image: Vec<u8>) -> (Vec<u8>, bool) {
+        let path = env::temp_dir().join(format!("flexbox-change-{}-{}", test, process::id()));
+        fs::write(&path, diskettes::blank(1, 5)).unwrap();
+        let words = Words::parse(find("delete").unwrap(), &[path.clone().into(), "A".into(), "--force".into()]);
+        let words = words.ok().flatten().unwrap();
+        let result = change(&words, |diskette| {
+            *diskette = Diskette::new(image);
+            Ok(())
+        });
+        let bytes = fs::read(&path).unwrap();
+        fs::remove_file(&path).unwrap();
+        (bytes, matches!(result, Err(Failure::Refused(..))))
+    }
+
+    #[test]
+    fn a_change_that_damages_a_sound_diskette_is_not_saved() {
+        let mut damaged = diskettes::blank(1, 5);
+        damaged[546] = 4;
+        assert_eq!(changed_to("damaged", damaged), (diskettes::blank(1, 5), true));
+        let mut sound = diskettes::blank(1, 5);
+        sound[530] = 7;
+        assert_eq!(changed_to("sound", sound.clone()), (sound, false));
+    }
+}

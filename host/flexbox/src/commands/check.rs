@@ -1,0 +1,81 @@
+//! `check`: what is damaged and where, in passes as fsck has them.
+
+use super::{look, plural, print, print_json, refused_of};
+use crate::check::{check, Check};
+use crate::failure::Failure;
+use crate::json;
+use crate::words::Words;
+use std::fmt::Write;
+
+/// A pass for each rule of the census, in its order.
+const PASSES: [(u8, &str); 5] = [
+    (42, "the directory's links"),
+    (43, "the names of files"),
+    (44, "the free chain"),
+    (45, "the chains of files"),
+    (46, "each sector in one chain"),
+];
+
+/// Ends with status 1 where the census refuses.
+pub fn run(words: &Words) -> Result<(), Failure> {
+    let mut diskette = look(words)?;
+    let check = check(&mut diskette).map_err(refused_of(words, &diskette))?;
+    match words.has("--json") {
+        true => print_json(&as_json(words, &check))?,
+        false => print(as_text(words, &check).as_bytes())?,
+    }
+    check.verdict.map_err(|_| Failure::Shown)
+}
+
+fn as_text(words: &Words, check: &Check) -> String {
+    let mut text = String::new();
+    for (i, (number, what)) in PASSES.iter().enumerate() {
+        let _ = writeln!(text, "Pass {}: {}", i + 1, what);
+        for finding in check.findings.iter().filter(|finding| finding.number == *number) {
+            let _ = writeln!(text, "  {} {}", number, finding);
+        }
+        if *number == 42 && check.slots.is_empty() {
+            text.push_str("  the slots can't be listed: names, files and their sectors are not checked\n");
+        }
+    }
+    text.push_str(&last_line(words, check));
+    text
+}
+
+fn last_line(words: &Words, check: &Check) -> String {
+    let name = words.image().display();
+    let free = check.free_sectors();
+    let all = check.shape.data_sectors();
+    match check.verdict {
+        Ok(()) => {
+            let files = plural(check.files(), "file");
+            format!("{}: clean, {}, {} of {} sectors used, {} free\n", name, files, all - free, all, free)
+        }
+        Err(refusal) => {
+            let (number, places) = (flex::message(refusal.number()), plural(check.findings.len(), "finding"));
+            format!("{}: DAMAGED, {}: {}: {}\n", name, places, number, refusal.meaning())
+        }
+    }
+}
+
+fn as_json(words: &Words, check: &Check) -> String {
+    let findings = check.findings.iter().map(|finding| {
+        json::Object::new()
+            .with("number", finding.number)
+            .with_text("text", &finding.text)
+            .with("slots", json::list(finding.slots.iter().map(|slot| slot.to_string())))
+            .with("sectors", json::list(finding.sectors.iter().map(|&sector| json::address(sector))))
+            .end()
+    });
+    let (number, meaning) =
+        check.verdict.map_or_else(|refusal| (refusal.number(), refusal.meaning()), |()| (0, "clean"));
+    json::Object::new()
+        .with_text("image", &words.image().to_string_lossy())
+        .with("verdict", number)
+        .with_text("meaning", meaning)
+        .with("files", check.files())
+        .with("data_sectors", check.shape.data_sectors())
+        .with("free_sectors", check.free_sectors())
+        .with("findings", json::list(findings))
+        .end()
+}

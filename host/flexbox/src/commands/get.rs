@@ -1,0 +1,112 @@
+//! `get`: the bytes of files, and whether they can be what was written.
+
+use super::pieces::{pieces, Piece};
+use super::{print, refused};
+use crate::check::{self, Check};
+use crate::failure::{note, Failure};
+use crate::image::{is_same, Image};
+use crate::words::Words;
+use flex::{Diskette, Reading, Refusal};
+use std::fs::{self, File, Metadata, OpenOptions};
+use std::io::{self, Write};
+use std::path::Path;
+
+/// All files are read before the first is given, so that a refusal gives nothing.
+pub fn run(words: &Words) -> Result<(), Failure> {
+    let pieces = pieces(words)?;
+    let image = Image::look(words.image(), words.wait())?;
+    let mut diskette = Diskette::new(image.read()?);
+    let mut readings = Vec::new();
+    let mut all_sound = true;
+    for piece in &pieces {
+        let reading = diskette.get(&piece.name).map_err(refused(words.image(), &piece.shown))?;
+        all_sound &= vouch(words, &mut diskette, piece, &reading)?;
+        readings.push(reading);
+    }
+    let own = image.metadata().map_err(|error| Failure::File(error.to_string()))?;
+    for (piece, reading) in pieces.iter().zip(&readings) {
+        give(words, piece, trimmed(words, &reading.bytes), &own)?;
+    }
+    // What is wrong has been said; the bytes are given, but not as if they were right.
+    match all_sound {
+        true => Ok(()),
+        false => Err(Failure::Shown),
+    }
+}
+
+/// Whether the file is as its slot states and in no other chain. If not, only `--force` goes on.
+fn vouch(words: &Words, diskette: &mut Diskette, piece: &Piece, reading: &Reading) -> Result<bool, Failure> {
+    let check = check::check(diskette).map_err(refused(words.image(), &piece.shown))?;
+    let doubts = doubts(&check, reading);
+    if let Some((refusal, _)) = doubts.first() {
+        let texts: Vec<&str> = doubts.iter().map(|(_, text)| text.as_str()).collect();
+        let failure = refused(words.image(), &format!("{}: {}", piece.shown, texts.join("; ")))(*refusal);
+        if !words.has("--force") {
+            return Err(failure);
+        }
+        failure.say();
+        note(&format!("{}: given all the same by --force", piece.shown));
+        return Ok(false);
+    }
+    if let Err(refusal) = check.verdict {
+        let text = "damaged, but not in this file, which is chained as stated and shares no sector";
+        note(&format!("{}, {}: {}: {}", words.image().display(), piece.shown, text, refusal));
+    }
+    Ok(true)
+}
+
+/// Why the bytes may not be the file's, each with the census's number for it.
+fn doubts(check: &Check, reading: &Reading) -> Vec<(Refusal, String)> {
+    let slot = check.slots.iter().find(|slot| slot.entry() == Some(&reading.entry));
+    let found = slot.into_iter().flat_map(|slot| check.of_slot(slot.number));
+    let mut doubts: Vec<(Refusal, String)> = found
+        .map(|finding| (Refusal::of(finding.number as u32).unwrap_or(Refusal::CensusFile), finding.text.clone()))
+        .collect();
+    if !reading.is_as_stated() {
+        doubts.push((Refusal::CensusFile, difference(reading)));
+    }
+    doubts
+}
+
+fn difference(reading: &Reading) -> String {
+    let stated = format!("its slot states {} sectors to {}", reading.entry.sectors, reading.entry.end);
+    match reading.stopped {
+        None => format!("{}, and its chain has no end", stated),
+        Some(Refusal::End) => format!("{}, and {} were read, to {}", stated, reading.sectors(), reading.last),
+        Some(_) => format!("{}, and after {} there is a bad address", stated, reading.sectors()),
+    }
+}
+
+fn trimmed<'a>(words: &Words, bytes: &'a [u8]) -> &'a [u8] {
+    match words.has("--trim") {
+        true => &bytes[..bytes.iter().rposition(|&byte| byte != 0).map_or(0, |last| last + 1)],
+        false => bytes,
+    }
+}
+
+fn give(words: &Words, piece: &Piece, bytes: &[u8], image: &Metadata) -> Result<(), Failure> {
+    match &piece.file {
+        None => print(bytes),
+        Some(path) => write(path, bytes, words.has("--replace"), image)
+            .map_err(|why| Failure::File(format!("{}: {}", path.display(), why))),
+    }
+}
+
+/// A file that is there stays unless it is to be replaced; the image itself is never written to.
+fn write(path: &Path, bytes: &[u8], replace: bool, image: &Metadata) -> Result<(), String> {
+    if fs::metadata(path).map_or(false, |there| is_same(&there, image)) {
+        return Err("this is the image itself".to_string());
+    }
+    let opened = if replace { File::create(path) } else { OpenOptions::new().write(true).create_new(true).open(path) };
+    let mut file = opened.map_err(|error| match error.kind() {
+        io::ErrorKind::AlreadyExists => "it is there already; --replace would replace it".to_string(),
+        _ => error.to_string(),
+    })?;
+    file.write_all(bytes).map_err(|error| {
+        if !replace {
+            // Made above, and not whole.
+            let _ = fs::remove_file(path);
+        }
+        error.to_string()
+    })
+}

@@ -1,0 +1,105 @@
+//! `info`: the shape of a diskette, its label and date, and how much is free.
+
+use super::{look, plural, print, print_json, refused_of};
+use crate::check::{check, Check};
+use crate::failure::Failure;
+use crate::json;
+use crate::words::Words;
+use flex::{Address, Diskette, Refusal};
+
+/// The information record, sector (0, 3), by its common FLEX layout.
+pub struct Record {
+    pub label: String,
+    pub volume: u16,
+    pub first_free: Address,
+    pub last_free: Address,
+    pub free: u16,
+    pub date: [u8; 3],
+}
+
+impl Record {
+    pub fn read(diskette: &mut Diskette) -> Result<Record, Refusal> {
+        let sector = diskette.sector(Address::new(0, 3))?;
+        let number = |at: usize| u16::from_be_bytes([sector[at], sector[at + 1]]);
+        Ok(Record {
+            label: label(&sector[16..27]),
+            volume: number(27),
+            first_free: Address::at(sector, 29),
+            last_free: Address::at(sector, 31),
+            free: number(33),
+            date: [sector[35], sector[36], sector[37]],
+        })
+    }
+
+    /// The date of the diskette as text.
+    pub fn made(&self) -> String {
+        match self.date {
+            [0, 0, 0] => "no date".to_string(),
+            [month, day, year] => format!("{:02}-{:02}-{:02}", month, day, year),
+        }
+    }
+}
+
+/// Up to the zeros or blanks at its end; what is no printable letter is shown as '?'.
+fn label(bytes: &[u8]) -> String {
+    let used = bytes.iter().rposition(|&byte| byte != 0 && byte != b' ').map_or(0, |last| last + 1);
+    let shown = |&byte: &u8| if byte == b' ' || byte.is_ascii_graphic() { byte as char } else { '?' };
+    bytes[..used].iter().map(shown).collect()
+}
+
+pub fn run(words: &Words) -> Result<(), Failure> {
+    let mut diskette = look(words)?;
+    let refused = refused_of(words, &diskette);
+    let record = Record::read(&mut diskette).map_err(&refused)?;
+    let check = check(&mut diskette).map_err(&refused)?;
+    match words.has("--json") {
+        true => print_json(&as_json(words, &record, &check)),
+        false => print(as_text(words, &record, &check).as_bytes()),
+    }
+}
+
+fn as_text(words: &Words, record: &Record, check: &Check) -> String {
+    let shape = check.shape;
+    let sectors = (shape.last as usize + 1) * shape.per as usize;
+    let label = if record.label.is_empty() { "none" } else { &record.label };
+    let free = match record.free {
+        0 => "no sector".to_string(),
+        count => format!("{} from {} to {}", plural(count as usize, "sector"), record.first_free, record.last_free),
+    };
+    let census = check.verdict.map_or_else(|refusal| refusal.to_string(), |()| "accepted".to_string());
+    format!(
+        "image    {}, {} bytes\nshape    tracks 0 to {} (M), {} sectors a track (S): {} sectors, {} of them for files\n\
+         label    {}\nvolume   {}\nmade     {}\nfree     {}\nfiles    {} in {} slots\ncensus   {}\n",
+        words.image().display(),
+        sectors * flex::SECTOR,
+        shape.last,
+        shape.per,
+        sectors,
+        shape.data_sectors(),
+        label,
+        record.volume,
+        record.made(),
+        free,
+        check.files(),
+        check.slots.len(),
+        census
+    )
+}
+
+fn as_json(words: &Words, record: &Record, check: &Check) -> String {
+    json::Object::new()
+        .with_text("image", &words.image().to_string_lossy())
+        .with("last_track", check.shape.last)
+        .with("sectors_per_track", check.shape.per)
+        .with("data_sectors", check.shape.data_sectors())
+        .with_text("label", &record.label)
+        .with("volume", record.volume)
+        .with("date", json::date(record.date))
+        .with("free", record.free)
+        .with("first_free", json::address(record.first_free))
+        .with("last_free", json::address(record.last_free))
+        .with("files", check.files())
+        .with("slots", check.slots.len())
+        .with("census", check.verdict.map_or_else(Refusal::number, |()| 0))
+        .end()
+}

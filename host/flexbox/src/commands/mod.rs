@@ -1,0 +1,70 @@
+//! The commands, one a module, and what they share.
+
+mod census;
+mod change;
+mod check;
+mod demo;
+mod dump;
+mod get;
+pub mod info;
+pub mod list;
+mod pieces;
+mod put;
+mod report;
+mod table;
+
+pub use table::{find, overview};
+
+use crate::failure::Failure;
+use crate::image::Image;
+use crate::words::Words;
+use flex::{Diskette, Name, Refusal, LARGEST_IMAGE};
+use std::io::{self, Write};
+use std::path::Path;
+
+/// The diskette, to be looked at.
+fn look(words: &Words) -> Result<Diskette, Failure> {
+    Ok(Diskette::new(Image::look(words.image(), words.wait())?.read()?))
+}
+
+fn typed(name: &str) -> Result<Name, Failure> {
+    name.parse().map_err(|error: flex::NameTooLong| Failure::Usage(error.to_string()))
+}
+
+/// What a refusal is told with: the image, and what was asked of it.
+fn refused<'a>(image: &'a Path, what: &'a str) -> impl Fn(Refusal) -> Failure + 'a {
+    move |refusal| {
+        let comma = if what.is_empty() { "" } else { ", " };
+        Failure::Refused(refusal, format!("{}{}{}", image.display(), comma, what))
+    }
+}
+
+/// The same of a diskette, whose image may be too large to be one.
+fn refused_of<'a>(words: &'a Words, diskette: &Diskette) -> impl Fn(Refusal) -> Failure + 'a {
+    let what = if diskette.image().len() > LARGEST_IMAGE { "more than 737,280 bytes" } else { "" };
+    refused(words.image(), what)
+}
+
+pub fn print(bytes: &[u8]) -> Result<(), Failure> {
+    let mut out = io::stdout();
+    match out.write_all(bytes).and_then(|()| out.flush()) {
+        Err(error) if error.kind() != io::ErrorKind::BrokenPipe => {
+            Err(Failure::File(format!("standard output: {}", error)))
+        }
+        _ => Ok(()),
+    }
+}
+
+fn print_json(json: &str) -> Result<(), Failure> {
+    print(format!("{}\n", json).as_bytes())
+}
+
+pub fn plural(count: usize, what: &str) -> String {
+    format!("{} {}{}", count, what, if count == 1 { "" } else { "s" })
+}
+
+/// The letter of the i-th file in a picture; files past the last letter share '#'.
+pub fn letter(i: usize) -> char {
+    const LETTERS: &[u8] = b"ABCDEFGHIJKLMNOPQRSTUVWXYZabcdefghijklmnopqrstuvwxyz0123456789";
+    LETTERS.get(i).map_or('#', |&letter| letter as char)
+}

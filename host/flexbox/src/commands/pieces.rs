@@ -1,0 +1,63 @@
+//! The files that `get` and `put` are asked for, each with where its bytes come from or go to.
+//!
+//! NAME.EXT=FILE names both sides. With `--files` a word alone is both: `put --files disk logs/NIGHT.TXT` makes NIGHT.TXT of that
+//! file, `get --files disk NIGHT.TXT` makes the file NIGHT.TXT in the current folder. One NAME.EXT alone is standard input
+//! or output.
+
+use super::typed;
+use crate::failure::Failure;
+use crate::words::{text, Words};
+use flex::Name;
+use std::ffi::{OsStr, OsString};
+use std::os::unix::ffi::OsStrExt;
+use std::path::{Path, PathBuf};
+
+pub struct Piece {
+    pub name: Name,
+    /// The name as it was typed.
+    pub shown: String,
+    /// None: standard input or output.
+    pub file: Option<PathBuf>,
+}
+
+pub fn pieces(words: &Words) -> Result<Vec<Piece>, Failure> {
+    let all: Vec<Piece> =
+        words.others().iter().map(|word| piece(word, words.has("--files"))).collect::<Result<_, _>>()?;
+    if all.len() > 1 && all.iter().any(|piece| piece.file.is_none()) {
+        return Err(Failure::Usage("several files need NAME.EXT=FILE each, or --files".to_string()));
+    }
+    for (i, piece) in all.iter().enumerate() {
+        if all[..i].iter().any(|earlier| full(&earlier.name) == full(&piece.name)) {
+            return Err(Failure::Usage(format!("{} is named twice", piece.shown)));
+        }
+    }
+    Ok(all)
+}
+
+fn piece(word: &OsString, files: bool) -> Result<Piece, Failure> {
+    let bytes = word.as_bytes();
+    let (shown, file) = match bytes.iter().position(|&byte| byte == b'=') {
+        Some(at) => (os(&bytes[..at]), Some(PathBuf::from(os(&bytes[at + 1..])))),
+        None if files => (last_part(word), Some(PathBuf::from(word))),
+        None => (word.clone(), None),
+    };
+    let shown = text(&shown)?.to_string();
+    Ok(Piece { name: typed(&shown)?, shown, file })
+}
+
+/// The name as the service takes it: with TXT where it has no extension.
+fn full(name: &Name) -> [u8; 11] {
+    let mut bytes = *name.bytes();
+    if !name.has_extension() {
+        bytes[8..].copy_from_slice(b"TXT");
+    }
+    bytes
+}
+
+fn os(bytes: &[u8]) -> OsString {
+    OsStr::from_bytes(bytes).to_os_string()
+}
+
+fn last_part(word: &OsString) -> OsString {
+    Path::new(word).file_name().unwrap_or(word).to_os_string()
+}

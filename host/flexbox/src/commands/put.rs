@@ -1,0 +1,48 @@
+//! `put`: new files, all of them or none.
+
+use super::change::change;
+use super::pieces::{pieces, Piece};
+use super::refused;
+use crate::failure::Failure;
+use crate::input;
+use crate::words::Words;
+use flex::{Diskette, Refusal};
+
+/// What is to be written is read first, so that nothing is asked of the service, and nobody waits for the image's lock,
+/// where there is nothing to write: a file that is closed unwritten is no file.
+pub fn run(words: &Words) -> Result<(), Failure> {
+    let pieces = pieces(words)?;
+    let contents: Vec<Vec<u8>> = pieces.iter().map(contents).collect::<Result<_, _>>()?;
+    let date = today()?;
+    change(words, |diskette| {
+        for (piece, bytes) in pieces.iter().zip(&contents) {
+            let refused = refused(words.image(), &piece.shown);
+            if words.has("--replace") {
+                make_room(diskette, piece).map_err(&refused)?;
+            }
+            diskette.put(&piece.name, bytes, date).map_err(&refused)?;
+        }
+        Ok(())
+    })
+}
+
+fn contents(piece: &Piece) -> Result<Vec<u8>, Failure> {
+    match &piece.file {
+        Some(path) => input::file(path),
+        None => input::standard_input(),
+    }
+}
+
+/// The old file goes from the copy in memory alone: it is lost only when the new one is saved in its place.
+fn make_room(diskette: &mut Diskette, piece: &Piece) -> Result<(), Refusal> {
+    match diskette.delete(&piece.name) {
+        Err(Refusal::NotFound) => Ok(()),
+        deleted => deleted,
+    }
+}
+
+/// Month, day and the last two digits of the year, where the machine stands.
+pub fn today() -> Result<[u8; 3], Failure> {
+    let (year, month, day) = posix::local_date().map_err(|error| Failure::File(format!("the date: {}", error)))?;
+    Ok([month, day, year.rem_euclid(100) as u8])
+}

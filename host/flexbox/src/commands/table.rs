@@ -1,0 +1,187 @@
+//! The table of commands, and the help that is made of it.
+
+use super::{census, change, check, demo, dump, get, info, list, put, report};
+use crate::words::Command;
+use std::fmt::Write;
+
+/// As many operands as one likes.
+const MANY: usize = usize::MAX;
+
+pub const COMMANDS: &[Command] = &[
+    Command {
+        name: "list",
+        usage: "[--json] IMAGE",
+        summary: "show the directory",
+        details: "Shows the live files in the order of their slots: slot, name, size in sectors, date (month-day-year) and\n\
+                  protection, then how many slots are left.\n",
+        operands: (1, 1),
+        options: &["--json"],
+        run: list::run,
+    },
+    Command {
+        name: "info",
+        usage: "[--json] IMAGE",
+        summary: "show the shape, label, date and free space",
+        details: "Shows the last track M and the sectors a track S, label, volume number and date of the diskette, what is\n\
+                  free, how many files there are, and what the census says.\n",
+        operands: (1, 1),
+        options: &["--json"],
+        run: info::run,
+    },
+    Command {
+        name: "check",
+        usage: "[--json] IMAGE",
+        summary: "check the diskette and say where it is damaged",
+        details: "Takes the proved census and says, rule by rule, where the diskette breaks it: which slot, file and sector, and\n\
+                  who shares a sector. Exit status 0: clean; 1: damaged. Nothing is changed.\n",
+        operands: (1, 1),
+        options: &["--json"],
+        run: check::run,
+    },
+    Command {
+        name: "census",
+        usage: "[--json] IMAGE",
+        summary: "check the diskette; show which file holds each sector",
+        details: "Shows the proved census as a picture: a line a track, a letter a file, a dot for a free sector. With --json its\n\
+                  list: each data sector with its owner, 0 for free, else the slot. A damaged diskette gets no picture, but\n\
+                  its number and where the damage is.\n",
+        operands: (1, 1),
+        options: &["--json"],
+        run: census::run,
+    },
+    Command {
+        name: "get",
+        usage: "[--trim] [--files] [--replace] [--force] IMAGE NAME.EXT[=FILE]..",
+        summary: "give the bytes of files",
+        details: "Writes a file's bytes to standard output, or to FILE: whole sectors of 252 bytes, with the zeros that fill the\n\
+                  last one up. A damaged file is refused: one whose chain is not as its slot states (it runs on into another\n\
+                  file, or ends early), or which shares a sector or its name with another.\n\
+                  \x20 --trim     without the zeros at the end (those that were written, too)\n\
+                  \x20 --files    each NAME.EXT alone goes to a file of that name in the current folder\n\
+                  \x20 --replace  a FILE that is there already is replaced\n\
+                  \x20 --force    gives the bytes of a damaged file, too, with a warning and exit status 1\n",
+        operands: (2, MANY),
+        options: &["--trim", "--files", "--replace", "--force"],
+        run: get::run,
+    },
+    Command {
+        name: "put",
+        usage: "[--files] [--replace] [--force] IMAGE NAME.EXT[=FILE]..",
+        summary: "make new files",
+        details: "Makes a new file of standard input, or of FILE, which must not be empty. Of several files all are made or none.\n\
+                  The date is today's by the local time (the variable TZ, or the machine's time zone).\n\
+                  \x20 --files    each word is a FILE, and the last part of its path is the name on the diskette\n\
+                  \x20 --replace  a file of that name is replaced; it is lost only once the new one is saved\n\
+                  \x20 --force    changes a damaged diskette, too, and says so; sound files may be lost\n",
+        operands: (2, MANY),
+        options: &["--files", "--replace", "--force"],
+        run: put::run,
+    },
+    Command {
+        name: "delete",
+        usage: "[--force] IMAGE NAME.EXT",
+        summary: "delete a file",
+        details: "Deletes the file; its sectors hang behind the free chain.\n\
+                  \x20 --force    changes a damaged diskette, too, and says so; sound files may be lost\n",
+        operands: (2, 2),
+        options: &["--force"],
+        run: change::delete,
+    },
+    Command {
+        name: "rename",
+        usage: "[--force] IMAGE OLD.EXT NEW.EXT",
+        summary: "give a file a new name",
+        details: "The new name must have an extension.\n\
+                  \x20 --force    changes a damaged diskette, too, and says so\n",
+        operands: (3, 3),
+        options: &["--force"],
+        run: change::rename,
+    },
+    Command {
+        name: "dump",
+        usage: "IMAGE TRACK,SECTOR",
+        summary: "show the bytes of a sector",
+        details: "Shows the 256 bytes of any sector, track 0 too: bytes 0-1 are the link, 2-3 the record number.\n",
+        operands: (2, 2),
+        options: &[],
+        run: dump::run,
+    },
+    Command {
+        name: "report",
+        usage: "IMAGE > PAGE.html",
+        summary: "make a page to look at",
+        details: "Writes one HTML page to standard output, with all that it needs: the diskette as rows of sectors coloured by who\n\
+                  holds them, damaged places marked, the directory as a table, and what the census says in words.\n",
+        operands: (1, 1),
+        options: &[],
+        run: report::run,
+    },
+    Command {
+        name: "demo",
+        usage: "IMAGE",
+        summary: "list, census, put, get and delete on the demo diskette, told step by step",
+        details: "Writes NIGHT.TXT to IMAGE, reads it back and deletes it, and shows directory and census in between.\n",
+        operands: (1, 1),
+        options: &[],
+        run: demo::run,
+    },
+];
+
+pub fn find(name: &str) -> Option<&'static Command> {
+    COMMANDS.iter().find(|command| command.name == name)
+}
+
+impl Command {
+    /// What `help COMMAND` shows.
+    pub fn help(&self) -> String {
+        format!(
+            "usage: flexbox {} {}\n\n{}  --wait N   waits N seconds, not 5, where another program has IMAGE locked\n",
+            self.name, self.usage, self.details
+        )
+    }
+}
+
+const REST: &str = "
+'flexbox help COMMAND' says more of one; './run COMMAND ..' in the repository builds flexbox first.
+
+A name has at most 8 characters and an extension at most 3; both begin with a letter and go on with letters, digits,
+hyphens or underscores; upper and lower case differ. Without an extension TXT is taken, but NEW.EXT must have one.
+
+A diskette that the census refuses is not changed, and neither is a read-only file. A changed image is checked again,
+written to a new file beside IMAGE, synced and renamed over it, all under a lock. A refusal leaves IMAGE as it was.
+
+Exit status: 0 done; 1 refused by the diskette service, or damaged; 2 wrong usage; 3 a file of this machine can't be
+read or may not be written; 4 another program has IMAGE locked.
+";
+
+/// What `help` shows.
+pub fn overview() -> String {
+    let mut text = String::from("usage: flexbox COMMAND ..\n\n");
+    for command in COMMANDS {
+        let _ = writeln!(text, "  {:8} {}", command.name, command.summary);
+    }
+    text.push_str("  help     show this, or more of one command; --version shows the version\n");
+    text + REST
+}
+
+#[cfg(test)]
+mod tests {
+    use super::*;
+
+    #[test]
+    fn no_line_of_the_help_is_too_wide_for_a_terminal() {
+        let all = COMMANDS.iter().map(Command::help).chain([overview()]);
+        for line in all.flat_map(|text| text.lines().map(str::to_string).collect::<Vec<_>>()) {
+            assert!(line.chars().count() <= 120, "{}", line);
+        }
+    }
+
+    #[test]
+    fn each_option_is_told_in_the_usage() {
+        for command in COMMANDS {
+            for option in command.options {
+                assert!(command.usage.contains(option), "{} {}", command.name, option);
+            }
+        }
+    }
+}

@@ -1,0 +1,43 @@
+//! Why a command failed, what is said of it on standard error, and the exit status that it gives.
+
+use flex::Refusal;
+
+#[derive(Debug)]
+pub enum Failure {
+    /// The words of the command are wrong.
+    Usage(String),
+    /// The service or its census refused: by what, and what was asked.
+    Refused(Refusal, String),
+    /// Refused or damaged, and all that there is to say has been said.
+    Shown,
+    /// A file of this machine can't be read, or may not be written.
+    File(String),
+    /// Another program holds the image.
+    Locked(String),
+}
+
+impl Failure {
+    pub fn status(&self) -> u8 {
+        match self {
+            Failure::Refused(..) | Failure::Shown => 1,
+            Failure::Usage(_) => 2,
+            Failure::File(_) => 3,
+            Failure::Locked(_) => 4,
+        }
+    }
+
+    pub fn say(&self) {
+        match self {
+            Failure::Refused(refusal, what) => {
+                eprintln!("{}: {} ({})", flex::message(refusal.number()), refusal.meaning(), what)
+            }
+            Failure::Usage(text) | Failure::File(text) | Failure::Locked(text) => eprintln!("flexbox: {}", text),
+            Failure::Shown => {}
+        }
+    }
+}
+
+/// Says something on standard error that is no failure.
+pub fn note(text: &str) {
+    eprintln!("flexbox: {}", text);
+}

@@ -1,0 +1,150 @@
+//! Image files: opened, locked and read to be looked at or changed.
+//!
+//! The lock is flock's, on the image file itself: shared to look, exclusive from before a change is read until after the new
+//! image is in place. A change renames a new file over the old one, so whoever waited for the old file's lock looks, once he
+//! has it, whether the path still leads to that file, and begins again if not.
+
+use crate::failure::{note, Failure};
+use crate::input;
+use crate::replace;
+use posix::Lock;
+use std::fs::{self, File, Metadata, OpenOptions};
+use std::io;
+use std::os::unix::fs::{MetadataExt, OpenOptionsExt};
+use std::path::{Path, PathBuf};
+use std::thread;
+use std::time::{Duration, Instant};
+
+/// How long one sleeps between two tries to get a lock.
+const PAUSE: Duration = Duration::from_millis(20);
+/// A shorter wait than this is not worth a message.
+const QUIET: Duration = Duration::from_millis(300);
+
+/// An image file that is open and locked.
+pub struct Image {
+    /// As it was typed: messages name it so.
+    named: PathBuf,
+    /// Without links: this is what is replaced.
+    path: PathBuf,
+    file: File,
+}
+
+impl Image {
+    /// Opens an image to look at it.
+    pub fn look(named: &Path, wait: Duration) -> Result<Image, Failure> {
+        Image::open(named, Lock::Shared, wait)
+    }
+
+    /// Opens an image to change it. A read-only file is a diskette with its write-protect tab: refused even for root.
+    pub fn take(named: &Path, wait: Duration) -> Result<Image, Failure> {
+        Image::open(named, Lock::Exclusive, wait)
+    }
+
+    fn open(named: &Path, lock: Lock, wait: Duration) -> Result<Image, Failure> {
+        let deadline = Instant::now() + wait;
+        let failed = |error| failed(named, error);
+        loop {
+            // A link stays a link: what it leads to is replaced.
+            let path = fs::canonicalize(named).map_err(failed)?;
+            let metadata = fs::metadata(&path).map_err(failed)?;
+            suits(named, &metadata, lock)?;
+            let file = open_file(&path, lock).map_err(failed)?;
+            wait_for(&file, named, lock, deadline, wait)?;
+            let image = Image { named: named.to_path_buf(), path, file };
+            if image.is_still_there().map_err(failed)? {
+                // The file may have got another mode or a second name while another held the lock.
+                suits(named, &image.metadata().map_err(failed)?, lock)?;
+                return Ok(image);
+            }
+        }
+    }
+
+    /// The file's bytes; of one that is too large as many as show that.
+    pub fn read(&self) -> Result<Vec<u8>, Failure> {
+        input::bounded(&self.file).map_err(|error| failed(&self.named, error))
+    }
+
+    /// Puts a new image in the old one's place, at once or not at all.
+    pub fn save(self, bytes: &[u8]) -> Result<(), Failure> {
+        replace::replace(&self, bytes).map_err(Failure::File)
+    }
+
+    pub fn named(&self) -> &Path {
+        &self.named
+    }
+
+    pub fn path(&self) -> &Path {
+        &self.path
+    }
+
+    pub fn metadata(&self) -> io::Result<Metadata> {
+        self.file.metadata()
+    }
+
+    /// Whether the path leads to the file that is open here.
+    pub fn is_still_there(&self) -> io::Result<bool> {
+        match fs::metadata(&self.path) {
+            Ok(there) => Ok(is_same(&there, &self.file.metadata()?)),
+            Err(error) if error.kind() == io::ErrorKind::NotFound => Ok(false),
+            Err(error) => Err(error),
+        }
+    }
+}
+
+pub fn is_same(one: &Metadata, other: &Metadata) -> bool {
+    (one.dev(), one.ino()) == (other.dev(), other.ino())
+}
+
+fn failed(named: &Path, error: io::Error) -> Failure {
+    Failure::File(format!("{}: {}", named.display(), error))
+}
+
+/// Whether this file may be opened as an image at all.
+fn suits(named: &Path, metadata: &Metadata, lock: Lock) -> Result<(), Failure> {
+    let refused = |why: String| Err(Failure::File(format!("{}: {}", named.display(), why)));
+    if !metadata.is_file() {
+        return refused("not a regular file".to_string());
+    }
+    if lock == Lock::Shared {
+        return Ok(());
+    }
+    if metadata.mode() & 0o222 == 0 {
+        return refused("it has no write permission, which is a diskette's write-protect tab; not changed".to_string());
+    }
+    if metadata.nlink() > 1 {
+        return refused(format!(
+            "it has {} hard links, and a new file under one of its names would part them; not changed",
+            metadata.nlink()
+        ));
+    }
+    Ok(())
+}
+
+/// Should the path have become a FIFO by now, opening it does not wait.
+fn open_file(path: &Path, lock: Lock) -> io::Result<File> {
+    let change = lock == Lock::Exclusive;
+    OpenOptions::new().read(true).write(change).custom_flags(posix::OPEN_WITHOUT_WAITING).open(path)
+}
+
+fn wait_for(file: &File, named: &Path, lock: Lock, deadline: Instant, wait: Duration) -> Result<(), Failure> {
+    let began = Instant::now();
+    let mut said = false;
+    loop {
+        match posix::try_lock(file, lock) {
+            Ok(true) => return Ok(()),
+            Ok(false) => {}
+            // A file system without locks has nobody who could hold one; what is only looked at is read all the same.
+            Err(_) if lock == Lock::Shared => return Ok(()),
+            Err(error) => return Err(Failure::File(format!("{}: it can't be locked: {}", named.display(), error))),
+        }
+        if Instant::now() >= deadline {
+            let text = format!("{}: another program still has it locked after {} s", named.display(), wait.as_secs());
+            return Err(Failure::Locked(text));
+        }
+        if !said && began.elapsed() >= QUIET {
+            note(&format!("{}: locked by another program; waiting up to {} s", named.display(), wait.as_secs()));
+            said = true;
+        }
+        thread::sleep(PAUSE);
+    }
+}

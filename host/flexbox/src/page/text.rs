@@ -1,0 +1,139 @@
+//! The words of the page: heading, facts, what the census says, and the directory.
+
+use super::{escaped, Signs};
+use crate::check::{Check, Owner};
+use crate::commands::info::Record;
+use crate::commands::list::protection;
+use crate::commands::plural;
+use flex::{Entry, Slot};
+use std::fmt::Write;
+
+/// The rules of the census in words, by its numbers.
+const RULES: [(u8, &str); 5] = [
+    (42, "The directory's links lead through its sectors on track 0 to an end"),
+    (43, "No two files have one name, and every file can be found"),
+    (44, "The free chain has as many sectors as it states, to its stated end"),
+    (45, "Each file's chain has as many sectors as its slot states, to its stated end"),
+    (46, "Each data sector is free or in one file, and never in two"),
+];
+
+pub fn heading(name: &str, check: &Check) -> String {
+    let (class, word, words) = match check.verdict {
+        Ok(()) => ("sound", "Sound", "The census accepts it: every data sector is free or in one file.".to_string()),
+        Err(refusal) => {
+            let number = flex::message(refusal.number());
+            ("damaged", "Damaged", format!("The census refuses it: {}, {}.", number, refusal.meaning()))
+        }
+    };
+    format!(
+        "<header>\n<h1>{}</h1>\n<p class=\"verdict {}\"><strong>{}</strong> {}</p>\n</header>\n",
+        escaped(name),
+        class,
+        word,
+        escaped(&words)
+    )
+}
+
+pub fn facts(record: &Record, check: &Check) -> String {
+    let shape = check.shape;
+    let all = shape.data_sectors();
+    let free = check.free_sectors();
+    let label = if record.label.is_empty() { "none" } else { &record.label };
+    let facts = [
+        ("Tracks", format!("0 to {}", shape.last)),
+        ("Sectors a track", shape.per.to_string()),
+        ("Label", label.to_string()),
+        ("Volume", record.volume.to_string()),
+        ("Made", record.made()),
+        ("Files", check.files().to_string()),
+        ("Free", format!("{} of {} sectors", free, all)),
+    ];
+    let mut text = String::from("<dl>\n");
+    for (name, value) in facts {
+        let _ = writeln!(text, "<div><dt>{}</dt><dd>{}</dd></div>", name, escaped(&value));
+    }
+    let used = 100 * (all - free.min(all)) / all.max(1);
+    let _ =
+        writeln!(text, "</dl>\n<div class=\"bar\" title=\"{}% in use\"><i style=\"width:{}%\"></i></div>", used, used);
+    text
+}
+
+/// Each rule of the census, kept or broken, and where it is broken.
+pub fn findings(check: &Check) -> String {
+    let mut text = String::from("<section>\n<h2>Census</h2>\n<ul class=\"rules\">\n");
+    for (number, rule) in RULES {
+        let broken: Vec<_> = check.findings.iter().filter(|finding| finding.number == number).collect();
+        let unknown = number != 42 && number != 44 && check.slots.is_empty();
+        let (class, mark) = match (broken.is_empty(), unknown) {
+            (false, _) => ("broken", "✗"),
+            (true, true) => ("unknown", "?"),
+            (true, false) => ("kept", "✓"),
+        };
+        let _ = write!(text, "<li class=\"{}\"><b>{}</b> {} <small>{}</small>", class, mark, rule, number);
+        if !broken.is_empty() {
+            text.push_str("<ul>");
+            for finding in broken {
+                let _ = write!(text, "<li>{}</li>", linked(finding));
+            }
+            text.push_str("</ul>");
+        }
+        text.push_str("</li>\n");
+    }
+    text.push_str("</ul>\n</section>\n");
+    text
+}
+
+/// The text of a finding, leading to its first sector.
+fn linked(finding: &crate::check::Finding) -> String {
+    match finding.sectors.first() {
+        Some(at) => format!("<a href=\"#c-{}-{}\">{}</a>", at.track, at.sector, escaped(&finding.text)),
+        None => escaped(&finding.text),
+    }
+}
+
+pub fn directory(check: &Check, signs: &Signs) -> String {
+    let mut text = String::from("<section>\n<h2>Directory</h2>\n");
+    let live: Vec<(&Slot, &Entry)> =
+        check.slots.iter().filter_map(|slot| slot.entry().map(|entry| (slot, entry))).collect();
+    if live.is_empty() {
+        let why = if check.slots.is_empty() { "It can't be listed." } else { "There is no file." };
+        let _ = writeln!(text, "<p>{}</p>\n</section>", why);
+        return text;
+    }
+    text.push_str(
+        "<div class=\"scroll\"><table>\n<thead><tr><th></th><th>Slot</th><th>Name</th><th>Sectors</th><th>From</th><th>To</th>\
+         <th>Date</th><th>Protected</th><th>State</th></tr></thead>\n<tbody>\n",
+    );
+    for (slot, entry) in live {
+        text.push_str(&line(check, signs, slot, entry));
+    }
+    let _ =
+        writeln!(text, "</tbody>\n</table></div>\n<p>{} in all.</p>\n</section>", plural(check.slots.len(), "slot"));
+    text
+}
+
+fn line(check: &Check, signs: &Signs, slot: &Slot, entry: &Entry) -> String {
+    let owner = Owner::File(slot.number);
+    let [month, day, year] = entry.date;
+    let state = match check.of_slot(slot.number).count() {
+        0 => "<td>sound</td>".to_string(),
+        _ => "<td class=\"broken\">damaged</td>".to_string(),
+    };
+    format!(
+        "<tr class=\"row{}\"><td><span class=\"key\" style=\"background:{}\">{}</span></td><td>{}</td><td class=\"name\">{}</td>\
+         <td>{}</td><td>{}</td><td>{}</td><td>{:02}-{:02}-{:02}</td><td>{}</td>{}</tr>\n",
+        slot.number,
+        signs.colour(owner),
+        escaped(signs.letter(owner)),
+        slot.number,
+        escaped(&entry.name.to_string()),
+        entry.sectors,
+        entry.start,
+        entry.end,
+        month,
+        day,
+        year,
+        protection(entry),
+        state
+    )
+}

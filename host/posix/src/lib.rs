@@ -1,0 +1,130 @@
+//! Three functions of the C library that flexbox needs and that std of Rust 1.63, Debian 12's, does not have: an advisory lock on
+//! a file, its owner set, and the local date. All unsafe code of the host that is not a call of libflex.a is here.
+//! docs/DECISIONS.md says why they are declared here and not taken from a crate.
+
+use std::fs::File;
+use std::io;
+use std::os::raw::{c_char, c_int, c_long, c_uint};
+use std::os::unix::io::AsRawFd;
+use std::ptr;
+
+/// For `OpenOptionsExt::custom_flags`: opening a FIFO does not wait for its other end. The number is Linux's.
+pub const OPEN_WITHOUT_WAITING: i32 = 0o4000;
+
+/// `struct tm` of glibc.
+#[repr(C)]
+struct BrokenDownTime {
+    second: c_int,
+    minute: c_int,
+    hour: c_int,
+    day_of_month: c_int,
+    month_from_0: c_int,
+    years_from_1900: c_int,
+    day_of_week: c_int,
+    day_of_year: c_int,
+    is_summer_time: c_int,
+    seconds_east: c_long,
+    zone: *const c_char,
+}
+
+extern "C" {
+    fn flock(file: c_int, operation: c_int) -> c_int;
+    fn fchown(file: c_int, owner: c_uint, group: c_uint) -> c_int;
+    fn time(stored: *mut i64) -> i64;
+    fn localtime_r(seconds: *const i64, into: *mut BrokenDownTime) -> *mut BrokenDownTime;
+}
+
+/// Who else may have the lock at the same time.
+#[derive(Clone, Copy, Debug, PartialEq, Eq)]
+pub enum Lock {
+    /// Others that ask for it shared: they only read.
+    Shared,
+    Exclusive,
+}
+
+/// Tries to get flock's advisory lock on an open file, without waiting. False: another has it. It is held until the file is
+/// closed.
+pub fn try_lock(file: &File, lock: Lock) -> io::Result<bool> {
+    const WITHOUT_WAITING: c_int = 4;
+    let operation = match lock {
+        Lock::Shared => 1,
+        Lock::Exclusive => 2,
+    };
+    // # Safety
+    // flock takes two numbers and touches no memory of this process. The descriptor is open as long as `file` lives.
+    let answer = unsafe { flock(file.as_raw_fd(), operation | WITHOUT_WAITING) };
+    match answered(answer) {
+        Ok(()) => Ok(true),
+        Err(error) if error.kind() == io::ErrorKind::WouldBlock => Ok(false),
+        Err(error) => Err(error),
+    }
+}
+
+/// Gives an open file this owner and group.
+pub fn set_owner(file: &File, owner: u32, group: u32) -> io::Result<()> {
+    // # Safety
+    // fchown takes three numbers and touches no memory of this process. The descriptor is open as long as `file` lives.
+    answered(unsafe { fchown(file.as_raw_fd(), owner, group) })
+}
+
+/// Today's date where the machine stands, by the variable TZ or the machine's time zone: year, month, day.
+pub fn local_date() -> io::Result<(i32, u8, u8)> {
+    // # Safety
+    // A null pointer is allowed: then the time is only given back.
+    let now = unsafe { time(ptr::null_mut()) };
+    let mut local = BrokenDownTime {
+        second: 0,
+        minute: 0,
+        hour: 0,
+        day_of_month: 0,
+        month_from_0: 0,
+        years_from_1900: 0,
+        day_of_week: 0,
+        day_of_year: 0,
+        is_summer_time: 0,
+        seconds_east: 0,
+        zone: ptr::null(),
+    };
+    // # Safety
+    // Both pointers are of variables that live through the call; the second has the layout of `struct tm` on 64-bit Linux
+    // with glibc. localtime_r reads TZ; nothing in flexbox changes the environment, and it has one thread.
+    let given = unsafe { localtime_r(&now, &mut local) };
+    if given.is_null() {
+        return Err(io::Error::last_os_error());
+    }
+    Ok((local.years_from_1900 + 1900, local.month_from_0 as u8 + 1, local.day_of_month as u8))
+}
+
+fn answered(answer: c_int) -> io::Result<()> {
+    if answer == 0 {
+        Ok(())
+    } else {
+        Err(io::Error::last_os_error())
+    }
+}
+
+#[cfg(test)]
+mod tests {
+    use super::*;
+    use std::{env, fs, process};
+
+    #[test]
+    fn an_exclusive_lock_keeps_others_out_until_the_file_is_closed() {
+        let path = env::temp_dir().join(format!("posix-lock-{}", process::id()));
+        let first = File::create(&path).unwrap();
+        let second = File::open(&path).unwrap();
+        assert!(try_lock(&first, Lock::Exclusive).unwrap());
+        assert!(!try_lock(&second, Lock::Exclusive).unwrap());
+        assert!(!try_lock(&second, Lock::Shared).unwrap());
+        drop(first);
+        assert!(try_lock(&second, Lock::Shared).unwrap());
+        assert!(try_lock(&File::open(&path).unwrap(), Lock::Shared).unwrap());
+        fs::remove_file(&path).unwrap();
+    }
+
+    #[test]
+    fn the_date_is_one() {
+        let (year, month, day) = local_date().unwrap();
+        assert!(year >= 2024 && (1..=12).contains(&month) && (1..=31).contains(&day));
+    }
+}

@@ -1,0 +1,211 @@
+//! A diskette with its control blocks, and the file work that a host does with them.
+//!
+//! The small steps ([`Diskette::ask`], [`Diskette::call`], ..) take the number of a block; what does a whole job at once
+//! ([`Diskette::put`], [`Diskette::get`], ..) uses block 0 and leaves it closed.
+
+#![forbid(unsafe_code)]
+
+use crate::layout::*;
+use crate::name::Name;
+use crate::refusal::Refusal;
+use crate::slot::{Entry, Slot};
+use crate::survey::{survey, Held};
+
+/// The block that whole jobs use.
+const JOB: usize = 0;
+/// The code of the extension TXT, for a name that is given without one.
+const TXT: usize = 1;
+
+/// The image of a diskette and a table of eight control blocks.
+#[derive(Clone, Debug, PartialEq, Eq)]
+pub struct Diskette {
+    image: Vec<u8>,
+    table: Vec<u8>,
+}
+
+/// What was read of a file, beside what its slot states.
+#[derive(Clone, Debug, PartialEq, Eq)]
+pub struct Reading {
+    /// 252 bytes a sector, so the zeros that fill the last one are among them.
+    pub bytes: Vec<u8>,
+    /// The slot, as opening found it.
+    pub entry: Entry,
+    /// The sector that was read last; 0,0 if none was.
+    pub last: Address,
+    /// Why reading ended: 8 at the end of the chain, 9 at a bad address. None: the chain has no end.
+    pub stopped: Option<Refusal>,
+}
+
+impl Diskette {
+    /// All blocks are closed.
+    pub fn new(image: Vec<u8>) -> Diskette {
+        Diskette { image, table: vec![0; TABLE] }
+    }
+
+    /// An image and a table that are in use already. Panics if the table is not 2,560 bytes.
+    pub fn of_buffers(image: Vec<u8>, table: Vec<u8>) -> Diskette {
+        assert_eq!(table.len(), TABLE, "a table has 2,560 bytes");
+        Diskette { image, table }
+    }
+
+    /// The image and the table, for calls of the entries by themselves.
+    pub fn into_buffers(self) -> (Vec<u8>, Vec<u8>) {
+        (self.image, self.table)
+    }
+
+    pub fn image(&self) -> &[u8] {
+        &self.image
+    }
+
+    /// The 320 bytes of a block. Panics over 7.
+    pub fn block(&self, fcb: usize) -> &[u8] {
+        &self.table[fcb * BLOCK..(fcb + 1) * BLOCK]
+    }
+
+    // Small steps.
+
+    /// Writes one byte of a block, where that is allowed.
+    pub fn preset(&mut self, fcb: usize, offset: usize, value: u8) -> Result<(), Refusal> {
+        crate::preset(&mut self.table, fcb, offset, value)
+    }
+
+    /// Writes some bytes of a block, one after the other.
+    pub fn preset_all(&mut self, fcb: usize, offset: usize, values: &[u8]) -> Result<(), Refusal> {
+        for (i, &value) in values.iter().enumerate() {
+            self.preset(fcb, offset + i, value)?;
+        }
+        Ok(())
+    }
+
+    /// Presets the name of a file, with TXT for an extension where it has none.
+    pub fn name(&mut self, fcb: usize, name: &Name) -> Result<(), Refusal> {
+        self.preset_all(fcb, NAME, name.bytes())?;
+        if !name.has_extension() {
+            crate::extension(&mut self.table, fcb, TXT)?;
+        }
+        Ok(())
+    }
+
+    /// Calls with the function that stands in byte 0 of the block; `byte` is what function 0 writes. Gives the byte read.
+    pub fn call(&mut self, fcb: usize, byte: u8) -> Result<u8, Refusal> {
+        crate::call(&mut self.image, &mut self.table, fcb, byte)
+    }
+
+    /// Calls with this function.
+    pub fn ask(&mut self, fcb: usize, function: u8) -> Result<(), Refusal> {
+        self.preset(fcb, FUNCTION, function)?;
+        self.call(fcb, 0)?;
+        Ok(())
+    }
+
+    /// Calls with this function on the file of this name.
+    pub fn ask_of(&mut self, fcb: usize, function: u8, name: &Name) -> Result<(), Refusal> {
+        self.name(fcb, name)?;
+        self.ask(fcb, function)
+    }
+
+    /// Opens a file for read.
+    pub fn open(&mut self, fcb: usize, name: &Name) -> Result<(), Refusal> {
+        self.ask_of(fcb, OPEN_READ, name)
+    }
+
+    /// Opens a new file for write.
+    pub fn create(&mut self, fcb: usize, name: &Name, date: [u8; 3]) -> Result<(), Refusal> {
+        self.preset_all(fcb, DATE, &date)?;
+        self.ask_of(fcb, OPEN_WRITE, name)
+    }
+
+    /// Sends bytes to a file that is open for write.
+    pub fn send(&mut self, fcb: usize, bytes: &[u8]) -> Result<(), Refusal> {
+        for &byte in bytes {
+            self.call(fcb, byte)?;
+        }
+        Ok(())
+    }
+
+    // Whole jobs.
+
+    /// All slots of the directory in order.
+    pub fn slots(&mut self) -> Result<Vec<Slot>, Refusal> {
+        let mut slots = Vec::new();
+        self.ask(JOB, OPEN_DIRECTORY)?;
+        loop {
+            match self.ask(JOB, NEXT_SLOT) {
+                Ok(()) => slots.push(Slot::shown(self.block(JOB), slots.len() + 1)),
+                Err(Refusal::End) => break,
+                Err(refusal) => {
+                    self.ask(JOB, CLOSE)?;
+                    return Err(refusal);
+                }
+            }
+        }
+        self.ask(JOB, CLOSE)?;
+        Ok(slots)
+    }
+
+    /// A new file of these bytes. With none it is no file: closed unwritten, it is deleted.
+    ///
+    /// Where it is refused after the open (7, 10), the block stays open and the slot live: throw the diskette away then, and
+    /// with it what was done.
+    pub fn put(&mut self, name: &Name, bytes: &[u8], date: [u8; 3]) -> Result<(), Refusal> {
+        self.create(JOB, name, date)?;
+        self.send(JOB, bytes)?;
+        self.ask(JOB, CLOSE)
+    }
+
+    /// All bytes of a file. On a damaged diskette they need not be what was written: look at [`Reading::is_as_stated`].
+    pub fn get(&mut self, name: &Name) -> Result<Reading, Refusal> {
+        self.open(JOB, name)?;
+        let entry = Entry::shown(self.block(JOB));
+        let mut bytes = Vec::new();
+        let stopped = loop {
+            // A chain has no more bytes than the diskette, unless it runs in a circle.
+            if bytes.len() > self.image.len() {
+                break None;
+            }
+            match self.call(JOB, 0) {
+                Ok(byte) => bytes.push(byte),
+                Err(refusal) => break Some(refusal),
+            }
+        };
+        let last = Address::at(self.block(JOB), POSITION);
+        self.ask(JOB, CLOSE)?;
+        Ok(Reading { bytes, entry, last, stopped })
+    }
+
+    pub fn delete(&mut self, name: &Name) -> Result<(), Refusal> {
+        self.ask_of(JOB, DELETE, name)
+    }
+
+    /// All eleven bytes of the new name are preset: byte 59 lies among them, and every open sets that to 255.
+    pub fn rename(&mut self, old: &Name, new: &Name) -> Result<(), Refusal> {
+        self.preset_all(JOB, NEW_NAME, new.bytes())?;
+        self.ask_of(JOB, RENAME, old)
+    }
+
+    /// The 256 bytes of a sector, a file's or not.
+    pub fn sector(&mut self, address: Address) -> Result<&[u8], Refusal> {
+        self.preset_all(JOB, POSITION, &[address.track, address.sector])?;
+        self.ask(JOB, READ_SECTOR)?;
+        Ok(&self.block(JOB)[BUFFER..])
+    }
+
+    /// The census: which chain holds each data sector.
+    pub fn survey(&self) -> Result<Vec<Held>, Refusal> {
+        survey(&self.image)
+    }
+}
+
+impl Reading {
+    /// How many sectors were read.
+    pub fn sectors(&self) -> usize {
+        self.bytes.len() / DATA
+    }
+
+    /// Whether the chain ended where the slot says, after as many sectors as it says.
+    pub fn is_as_stated(&self) -> bool {
+        self.stopped == Some(Refusal::End)
+            && self.sectors() == self.entry.sectors as usize
+            && self.last == self.entry.end
+    }
+}
