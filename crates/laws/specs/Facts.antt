@@ -92,7 +92,7 @@ abbrev pub inChecks : List ℕ
 inChecks = 16 ∷ 1 ∷ 18 ∷ 13 ∷ []
 
 -- where the first of two tests fails, the second is what held
-second : (b c : Bool) → pick b true c ≡ true → b ≡ false → c ≡ true
+pub second : (b c : Bool) → pick b true c ≡ true → b ≡ false → c ≡ true
 second b c h e = either b c h (λ d. clash (cc)) (λ d. d)
 
 module _ (img tab : List ℕ) (f b : ℕ) (z : Shaped img) where

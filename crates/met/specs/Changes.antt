@@ -10,7 +10,7 @@ use lib.ListN.{length, getD, set, drop, length-set}
 use lib.Seq.{getD-set-same, getD-set-other}
 use lib.Dec.{eqb, ltb}
 use borrow.Author.Tests.{eqb-true, eqb-false}
-use Rattle.rules.specs.Bytes.{pick, within}
+use Rattle.rules.specs.Bytes.{pick}
 use Rattle.rules.specs.Image.{isSector}
 use Rattle.rules.specs.Names.{legal}
 use Rattle.rules.specs.Directory.{live, named, vacant, neverUsed, slotsOf}
@@ -18,9 +18,9 @@ use Rattle.rules.specs.Stores.{put}
 use Rattle.rules.specs.Files.{opened, writeProtected, deleteProtected}
 use Rattle.rules.specs.Call.{served, fits}
 use Rattle.laws.specs.Tests.{pick-cases, pick-all}
-use Rattle.laws.specs.Tests.{within-is}
 use Rattle.chains.specs.Addresses.{absurd-bool}
 use Rattle.demands.specs.Ledger.{File, noFile, Block, closed, listing, reading, writing, Ledger, Request, Fate, denied, granted, Sought, nowhere, slot, onSought, fileNamed, vacantSlot, busy, activity, block, file, attributes, onBlock, onFile, onFree, withMark, withName, newFile, taken, transferred, openedToRead, openedToWrite, shutBlock, rewound, shownNext, deleted, fetched, renamed, performed, called, joined, entryOf}
+use Rattle.met.specs.Tames.{last-code}
 use Rattle.met.specs.Relation.{opens, writes, Keeps, Agrees}
 use Rattle.met.specs.Searches.{slot-same, seek-found, named-hit, vacant-hit, marked-dead}
 use Rattle.met.specs.Opens.{legal-live}
@@ -58,26 +58,6 @@ pub data Change (a : Ledger) (n : ℕ) (q : Request) : Ledger → Type 0 where
 abbrev pub Changes : Ledger → ℕ → Request → Fate → Type 0
 Changes a n q (denied e) = Unit {0}
 Changes a n q (granted b a′ ps) = Change a n q a′
-
-low-code : (c : ℕ) → c ≤ 2 → c ≢ 0 → c ≢ 1 → c ≢ 2 → ⊥
-low-code c h a0 a1 a2 = omega arith
-
-mid-code : (c : ℕ) → 4 ≤ c → c ≤ 7 → c ≢ 4 → c ≢ 5 → c ≢ 6 → c ≢ 7 → ⊥
-mid-code c h k a4 a5 a6 a7 = omega arith
-
-high-code : (c : ℕ) → 12 ≤ c → c ≤ 13 → c ≢ 12 → c ≡ 13
-high-code c h k a12 = omega arith
-
-last-code : (c : ℕ) → served c ≡ true → c ≢ 0 → c ≢ 1 → c ≢ 2 → c ≢ 4 → c ≢ 5 → c ≢ 6 → c ≢ 7 → c ≢ 9 → c ≢ 12 → c ≡ 13
-unfolding served
-last-code c h a0 a1 a2 a4 a5 a6 a7 a9 a12 = go (within 0 2 c) refl (within 4 7 c) refl (eqb c 9) refl h
-  where
-    go : (u : Bool) → within 0 2 c ≡ u → (v : Bool) → within 4 7 c ≡ v → (w : Bool) → eqb c 9 ≡ w
-        → pick u true (pick v true (pick w true (within 12 13 c))) ≡ true → c ≡ 13
-    go true e v f w g h = absurd (low-code c (within-is 0 2 c e .1) a0 a1 a2)
-    go false e true f w g h = let p = within-is 4 7 c f in absurd (mid-code c (p .0) (p .1) a4 a5 a6 a7)
-    go false e false f true g h = absurd (a9 (eqb-true c 9 g))
-    go false e false f false g h = let p = within-is 12 13 c h in high-code c (p .0) (p .1) a12
 
 module _ (M S : ℕ) (a : Ledger) (n : ℕ) (q : Request) where
   abbrev C : Fate → Type 0

@@ -18,18 +18,15 @@ use Rattle.rules.specs.Block.{nameField, indexField, newNameField, bufferField,
 use Rattle.rules.specs.Transfer.{nextToRead, loadPuts, load, reading, slotIn, fresh, linked, takeStores, takePuts, takeFor, takeSector, sent, fill, writing, transfer, shut, mark, closeWriting, close}
 use Rattle.rules.specs.Files.{opened, openRead, newEntry, openWrite, rewind, openDirectory, shown, nextSlot, readSector, writeProtected, deleteProtected, hangStores, gone, remove, delete, rename}
 use Rattle.rules.specs.Call.{served, fits, checked, perform, asked}
-use Rattle.laws.specs.Tests.{clash, either, within-is, pick-all, pick-cases}
+use Rattle.laws.specs.Tests.{either, within-is, pick-all, pick-cases}
 use Rattle.laws.specs.Bytes.{length-one, length-two, length-six, length-part, length-fresh}
 use Rattle.laws.specs.Each.{Each, each-append, member-here, member-there}
 use Rattle.laws.specs.Addresses.{Shaped, shape-is, data-is, data-low}
 use Rattle.laws.specs.Slots.{IsSlot, find-is, vacancy-is, placed-is}
 use Rattle.laws.specs.Fair.{onSlot-all, onNone-all}
+use Rattle.laws.specs.Facts.{second}
 use Rattle.demands.specs.Demands.{names, looks}
 use Rattle.met.specs.Bounds.{touches, spans, Touched, spans-at, lands, lands-each, Lies, in-record, in-slots, in-sector, sectors, Tamed, tame-still, tame-done, tame-then}
-
--- where the first of two tests fails, the second is what held
-second : (b c : Bool) → pick b true c ≡ true → b ≡ false → c ≡ true
-second b c h e = either b c h (λ d. clash (cc)) (λ d. d)
 
 -- of the codes that are served, 13 is the one that is left
 above : (m c : ℕ) → m ≤ c → c ≢ m → m + 1 ≤ c
@@ -38,7 +35,7 @@ above m c h n = omega arith
 beyond : {A : Type 0} (m c : ℕ) → m + 1 ≤ c → c ≤ m → A
 beyond m c h k = absurd (omega arith)
 
-last-code : (c : ℕ) → served c ≡ true → c ≢ 0 → c ≢ 1 → c ≢ 2 → c ≢ 4 → c ≢ 5 → c ≢ 6 → c ≢ 7 → c ≢ 9 → c ≢ 12 → c ≡ 13
+pub last-code : (c : ℕ) → served c ≡ true → c ≢ 0 → c ≢ 1 → c ≢ 2 → c ≢ 4 → c ≢ 5 → c ≢ 6 → c ≢ 7 → c ≢ 9 → c ≢ 12 → c ≡ 13
 unfolding served
 last-code c h n0 n1 n2 n4 n5 n6 n7 n9 n12 =
     either (within 0 2 c) _ h
