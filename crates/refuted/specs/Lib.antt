@@ -1,0 +1,3 @@
+-- The fakes refuted.
+pub mod All
+pub mod Pair
