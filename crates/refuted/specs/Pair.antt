@@ -169,10 +169,6 @@ pairLedger = record {
   forms = pairForms;
 }
 
-pub pair-ledger : ledgerOf 5 pairImage pairTable ≡ pairLedger
-unfolding rules demands pairImage pairStores pairTable pairForms pairLedger never entry leftForm txt dat
-pair-ledger = refl
-
 unfoldable pub paired : Unit {0}
 unfolding pair pairImage pairStores pairTable pairForms pairLedger never entry leftForm txt dat
 paired = tt
