@@ -1,4 +1,4 @@
 -- The fakes refuted.
 pub mod All
 pub mod Pair
-pub mod Refuted
+pub mod Run
