@@ -130,9 +130,9 @@ unnamed : (nm : List ℕ) (cs : List Scene) → unhit nm cs ≡ true → Unnamed
 unfolding unhit
 unnamed nm [] h = tt
 unnamed nm (c ∷ cs) h =
-  let p = not-hit (hits 12 nm c) (pick (hits 13 nm c) false (unhit nm cs)) h in
-  let q = not-hit (hits 13 nm c) (unhit nm cs) (p .1) in
-  (p .0, q .0, unnamed nm cs (q .1))
+    let p = not-hit (hits 12 nm c) (pick (hits 13 nm c) false (unhit nm cs)) h in
+    let q = not-hit (hits 13 nm c) (unhit nm cs) (p .1) in
+    (p .0, q .0, unnamed nm cs (q .1))
   where
     not-hit : (b c : Bool) → pick b false c ≡ true → (b ≡ false) × (c ≡ true)
     not-hit true c h = absurd (never h)
