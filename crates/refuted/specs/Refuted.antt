@@ -156,12 +156,13 @@ unfolding rules demands paired
 stuck-ours = refl
 
 -- `accepts`: D.TXT takes a free sector, the first byte of C.TXT the last one; the second byte needs none
+stingy-made : Demand2 stingy → Created stingy 1 5 (run stingy pair (asking 5 0 ∷ asking 5 8 ∷ [])) (told stingy pair (asking 5 0 ∷ asking 5 8 ∷ [])) 0 3 0
+unfolding rules demands paired
+stingy-made d = d .creates pair pair-start (asking 5 0 ∷ asking 5 8 ∷ []) 0 3 0 (record { block = omega arith; function = refl; drive = refl }) refl refl refl refl
+
 pub stingy-fails : Demand2 stingy → ⊥
 unfolding rules demands paired
-stingy-fails d = differ 7 0 refl (made-late .writes (asking 0 7 ∷ asking 0 8 ∷ []) ((λ q. refl), ((λ q. refl), tt)) .accepts .1 .0 refl refl)
-  where
-    made-late : Created stingy 1 5 (run stingy pair (asking 5 0 ∷ asking 5 8 ∷ [])) (told stingy pair (asking 5 0 ∷ asking 5 8 ∷ [])) 0 3 0
-    made-late = d .creates pair pair-start (asking 5 0 ∷ asking 5 8 ∷ []) 0 3 0 (record { block = omega arith; function = refl; drive = refl }) refl refl refl refl
+stingy-fails d = differ 7 0 refl (stingy-made d .writes (asking 0 7 ∷ asking 0 8 ∷ []) ((λ q. refl), ((λ q. refl), tt)) .accepts .1 .0 refl refl)
 
 pub stingy-ours : answers flex (run flex pair (asking 5 0 ∷ asking 5 8 ∷ asking 0 0 ∷ asking 0 7 ∷ [])) (asking 0 8) ≡ 0
 unfolding rules demands paired

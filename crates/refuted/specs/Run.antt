@@ -1,20 +1,20 @@
--- The demands are not vacuous: a run of calls on the start with two files, its answers, and what every clause of `Sound` finds at its end.
-use mathlib.Core.Path.{_≡_, refl, ap, sym}
+-- The demands are not empty: a run of 29 calls and 16 presets on the start with two files, its answers, and what each clause of `Sound` finds there.
+use mathlib.Core.Path.{_≡_, refl, ap, _∙_}
 use mathlib.Core.Bool.{Bool, true, false}
 use mathlib.Core.List.{List, [], _∷_, _++_}
 use Prim.Native.Nat.{ℕ, zero, suc, _+_, _*_, _<_}
 use native.Mathlib.Omega.{arith}
 use lib.ListN.{length, getD}
-use Rattle.rules.specs.Bytes.{pick, part, within}
+use Rattle.rules.specs.Bytes.{pick, byteAt, part, within}
 use Rattle.rules.specs.Directory.{live, slots, member}
 use Rattle.rules.specs.Image.{isSector}
 use Rattle.rules.specs.Block.{idle}
 use Rattle.rules.specs.All.{rules}
 use Rattle.laws.specs.Tests.{never}
-use Rattle.demands.specs.Ledger.{Call, setting, extending, asking, Ledger, Block, closed, listing, reading, writing, block, asks, activity}
-use Rattle.demands.specs.Service.{flex, Entry, log}
-use Rattle.demands.specs.History.{Scene, hits, Unnamed, ahead}
-use Rattle.demands.specs.Demands.{told, past, Asks, Idle, placeIn}
+use Rattle.demands.specs.Ledger.{Call, setting, extending, asking, Ledger, Block, closed, listing, reading, writing, file, block, asks, activity, entryOf}
+use Rattle.demands.specs.Service.{flex, Machine, Entry, answers, gave, next, run, log}
+use Rattle.demands.specs.History.{Scene, history, scenes, hits, Unnamed, ahead}
+use Rattle.demands.specs.Demands.{lastOf, perOf, begun, told, past, Asks, Idle, inSlot, placeIn, Sound}
 use Rattle.refuted.specs.All.{demands}
 use Rattle.refuted.specs.Pair.{pair, paired}
 
@@ -44,31 +44,19 @@ unfoldable pub tried : Unit {0}
 unfolding paired written removed looked trial
 tried = tt
 
--- answer and byte of each call
-abbrev pub outcomes : List Entry → List (ℕ × ℕ)
-outcomes [] = []
-outcomes (e ∷ es) = (e .ans, e .back) ∷ outcomes es
+-- ---- what is computed, in one go
 
-pub trial-answers : outcomes (log flex pair trial) ≡
-    (0, 0) ∷ (0, 0) ∷ (0, 0) ∷ (0, 0) ∷ (0, 0) ∷ (11, 0) ∷ (0, 0) ∷ (0, 0) ∷ (0, 0) ∷ (7, 0) ∷ (2, 0)
-    ∷ (18, 0) ∷ (0, 0) ∷ (0, 0)
-    ∷ (0, 0) ∷ (0, 0) ∷ (3, 0) ∷ (0, 0) ∷ (0, 0) ∷ (21, 0) ∷ (4, 0) ∷ (0, 0) ∷ (0, 0)
-    ∷ (0, 0) ∷ (0, 0) ∷ (0, 0) ∷ (0, 0) ∷ (0, 10) ∷ (0, 11) ∷ (0, 0) ∷ (0, 0) ∷ (0, 10)
-    ∷ (0, 0) ∷ (0, 0) ∷ (0, 0) ∷ (0, 0) ∷ (0, 0)
-    ∷ (0, 0) ∷ (13, 0) ∷ (0, 0) ∷ (1, 0) ∷ (0, 0) ∷ (0, 0) ∷ (16, 0) ∷ (13, 0) ∷ []
-unfolding rules demands tried
-trial-answers = refl
+-- no call deletes or renames the file of this name
+unhit : List ℕ → List Scene → Bool
+unhit nm [] = true
+unhit nm (c ∷ cs) = pick (hits 12 nm c) false (pick (hits 13 nm c) false (unhit nm cs))
 
--- ---- at its end every clause of `Sound` that asks for something finds it
-
--- what is read off the ledger, once: the eight blocks; code and drive of 1, 3 and 4; the position of 4; how many slots; what is free; the byte
--- that is next for block 1
+-- of a ledger: the eight blocks; code and drive of 1, 3 and 4; the position of 4, how many slots, the byte that is next for 1
 record Facts : Type 0 where
   pub blocks : List Block
   pub codes : List ℕ
   pub drives : List ℕ
   pub numbers : List ℕ
-  pub free : List ℕ
 
 abbrev factsOf : Ledger → Facts
 factsOf a = record {
@@ -76,7 +64,6 @@ factsOf a = record {
   codes = asks a 1 0 .code ∷ asks a 3 0 .code ∷ asks a 4 0 .code ∷ [];
   drives = asks a 1 0 .drive ∷ asks a 3 0 .drive ∷ asks a 4 0 .drive ∷ [];
   numbers = asks a 4 0 .position ∷ length (a .slots) ∷ getD (ahead a (block a 1)) 0 0 ∷ [];
-  free = a .free;
 }
 
 abbrev theFacts : Facts
@@ -85,18 +72,55 @@ theFacts = record {
   codes = 0 ∷ 7 ∷ 9 ∷ [];
   drives = 0 ∷ 0 ∷ 0 ∷ [];
   numbers = 261 ∷ 10 ∷ 11 ∷ [];
-  free = 8 ∷ 9 ∷ [];
 }
 
-facts : factsOf (told flex pair trial) ≡ theFacts
-unfolding rules demands tried
-facts = refl
+-- answer and byte of each call
+abbrev pub outcomes : List Entry → List (ℕ × ℕ)
+outcomes [] = []
+outcomes (e ∷ es) = (e .ans, e .back) ∷ outcomes es
 
--- block 1 reads A.TXT, of which byte 11 is next; 3 lists, two slots shown; 4 asks for sector 1,5; 0 has an unfinished sector
+abbrev pub theOutcomes : List (ℕ × ℕ)
+theOutcomes =
+    (0, 0) ∷ (0, 0) ∷ (0, 0) ∷ (0, 0) ∷ (0, 0) ∷ (11, 0) ∷ (0, 0) ∷ (0, 0) ∷ (0, 0) ∷ (7, 0) ∷ (2, 0)
+    ∷ (18, 0) ∷ (0, 0) ∷ (0, 0)
+    ∷ (0, 0) ∷ (0, 0) ∷ (3, 0) ∷ (0, 0) ∷ (0, 0) ∷ (21, 0) ∷ (4, 0) ∷ (0, 0) ∷ (0, 0)
+    ∷ (0, 0) ∷ (0, 0) ∷ (0, 0) ∷ (0, 0) ∷ (0, 10) ∷ (0, 11) ∷ (0, 0) ∷ (0, 0) ∷ (0, 10)
+    ∷ (0, 0) ∷ (0, 0) ∷ (0, 0) ∷ (0, 0) ∷ (0, 0)
+    ∷ (0, 0) ∷ (13, 0) ∷ (0, 0) ∷ (1, 0) ∷ (0, 0) ∷ (0, 0) ∷ (16, 0) ∷ (13, 0) ∷ []
+
+-- of a log, of which the name nm is A.TXT
+record Summary : Type 0 where
+  pub outs : List (ℕ × ℕ)
+  pub facts : Facts
+  pub spares : Bool
+
+summary : List ℕ → List Entry → Summary
+summary nm es = record {
+  outs = outcomes es;
+  facts = factsOf (history (lastOf pair) (perOf pair) (begun pair) es);
+  spares = unhit nm (scenes (lastOf pair) (perOf pair) (begun pair) es);
+}
+
+abbrev aTxt : List ℕ
+aTxt = part (pair .img) (placeIn pair 0) 11
+
+computed : summary aTxt (log flex pair trial) ≡ record { outs = theOutcomes; facts = theFacts; spares = true }
+unfolding rules demands tried unhit summary
+computed = refl
+
+-- ---- ITS ANSWERS
+
+pub trial-answers : outcomes (log flex pair trial) ≡ theOutcomes
+unfolding summary
+trial-answers = ap (λ (s : Summary). s .outs) computed
+
+-- ---- WHAT STANDS AT ITS END: every clause of `Sound` that asks for something finds it
+
+-- block 1 reads A.TXT, of which byte 11 is next; 3 lists, two slots shown; 4 asks for a sector; 0 has an unfinished one
 pub record Busy (a : Ledger) : Type 0 where
   pub reads : Asks a 1 0 × (activity (block a 1) ≡ 1) × (getD (ahead a (block a 1)) 0 0 ≡ 11)
   pub lists : Asks a 3 7 × (block a 3 ≡ listing 2) × (2 < length (a .slots))
-  pub fetches : Asks a 4 9 × Idle a 4 × (isSector 1 5 (asks a 4 0 .position) ≡ true)
+  pub fetches : Asks a 4 9 × Idle a 4 × (asks a 4 0 .position ≡ 261)
   pub writes : block a 0 ≡ writing 1 (70 ∷ 71 ∷ [])
 
 busy : (a : Ledger) → factsOf a ≡ theFacts → Busy a
@@ -109,23 +133,15 @@ busy a e =
     record {
       reads = (record { block = omega arith; function = codes 0; drive = drives 0 }, ap activity (blocks 1), numbers 2);
       lists = (record { block = omega arith; function = codes 1; drive = drives 1 }, blocks 3, rw (numbers 1) (omega arith));
-      fetches = (record { block = omega arith; function = codes 2; drive = drives 2 }, ap (λ (b : Block). idle (activity b)) (blocks 4), ap (isSector 1 5) (numbers 0));
+      fetches = (record { block = omega arith; function = codes 2; drive = drives 2 }, ap (λ (b : Block). idle (activity b)) (blocks 4), numbers 0);
       writes = blocks 0;
     }
 
 pub trial-busy : Busy (told flex pair trial)
-trial-busy = busy (told flex pair trial) facts
-
--- of the free sectors 8 and 9, F.TXT's first byte takes 8, and 9 stays free
-pub trial-rests : (member 9 (told flex pair trial .free) ≡ true) × (member 9 (told flex pair (trial ++ asking 7 91 ∷ []) .free) ≡ true)
-unfolding rules demands tried
-trial-rests = (ap (λ (f : Facts). member 9 (f .free)) facts, refl)
+unfolding summary
+trial-busy = busy (told flex pair trial) (ap (λ (s : Summary). s .facts) computed)
 
 -- A.TXT is spared: live at the start, and no call names it
-unhit : List ℕ → List Scene → Bool
-unhit nm [] = true
-unhit nm (c ∷ cs) = pick (hits 12 nm c) false (pick (hits 13 nm c) false (unhit nm cs))
-
 unnamed : (nm : List ℕ) (cs : List Scene) → unhit nm cs ≡ true → Unnamed nm cs
 unfolding unhit
 unnamed nm [] h = tt
@@ -138,16 +154,40 @@ unnamed nm (c ∷ cs) h =
     not-hit true c h = absurd (never h)
     not-hit false c h = (refl, h)
 
-unhit-trial : unhit (part (pair .img) (placeIn pair 0) 11) (past flex pair trial) ≡ true
-unfolding rules demands tried unhit
-unhit-trial = refl
+pub trial-unnamed : Unnamed aTxt (past flex pair trial)
+unfolding summary
+trial-unnamed = unnamed aTxt (past flex pair trial) (ap (λ (s : Summary). s .spares) computed)
 
-trial-live : live (pair .img) (placeIn pair 0) ≡ true
-unfolding rules demands tried
-trial-live = refl
+pub trial-live : (0 < length (slots (pair .img) (perOf pair))) × (live (pair .img) (placeIn pair 0) ≡ true)
+unfolding rules demands paired
+trial-live = (omega arith, refl)
 
-trial-unnamed : Unnamed (part (pair .img) (placeIn pair 0) 11) (past flex pair trial)
-trial-unnamed = unnamed _ _ unhit-trial
+-- byte 0 of the boot sector is named by nobody; 1,5 is a sector
+quiet-there : (0 < 256 * perOf pair) × (inSlot 0 (slots (pair .img) (perOf pair)) ≡ false) × (isSector (lastOf pair) (perOf pair) 261 ≡ true)
+unfolding rules demands paired
+quiet-there = (omega arith, refl, refl)
 
-pub trial-spares : (live (pair .img) (placeIn pair 0) ≡ true) × Unnamed (part (pair .img) (placeIn pair 0) 11) (past flex pair trial)
-trial-spares = (trial-live, trial-unnamed)
+-- of the free sectors 6 and 9 the first two calls take 6, and 9 stays free
+pub trial-rests : (member 9 (told flex pair (asking 0 0 ∷ []) .free) ≡ true) × (member 9 (told flex pair (asking 0 0 ∷ asking 0 70 ∷ []) .free) ≡ true)
+unfolding rules demands paired
+trial-rests = (refl, refl)
+
+-- so the clauses say this of the end
+abbrev pub end : Machine
+end = run flex pair trial
+
+pub clauses : Sound flex pair trial
+    → (gave flex end (asking 1 0) ≡ 11)
+    × (part (next flex end (asking 3 0) .tab) 964 24 ≡ entryOf (file (told flex pair trial) 2))
+    × (answers flex end (asking 4 0) ≡ 0)
+    × (byteAt (end .img) 0 ≡ byteAt (pair .img) 0)
+    × (part (end .img) (placeIn pair 0) 24 ≡ part (pair .img) (placeIn pair 0) 24)
+unfolding within
+clauses s =
+    let b = trial-busy in (
+      s .readers 1 0 (b .reads .0) (b .reads .1) .1 ∙ b .reads .2,
+      s .lists 3 0 2 (b .lists .0) (b .lists .1) (b .lists .2) .1,
+      s .fetches 4 0 (b .fetches .0) (b .fetches .1) (ap (isSector (lastOf pair) (perOf pair)) (b .fetches .2) ∙ quiet-there .2) .0,
+      s .stays 0 (quiet-there .0) refl (quiet-there .1),
+      s .spared 0 (trial-live .0) (trial-live .1) trial-unnamed .0,
+    )
