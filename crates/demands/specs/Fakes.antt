@@ -33,19 +33,19 @@ transfers act tab n = pick (asksFor 0 tab n) (eqb (activityIn tab (320 * n)) act
 abbrev pub refusal : ℕ → List ℕ → List ℕ → ℕ → Out
 refusal e img tab n = out e 0 img (over tab (320 * n + 1) (one e))
 
--- where the test holds and the call is accepted, image and table are changed further: f to the image, g to the table
+-- where the test holds and the call is accepted, the image is changed further, by f; the table, by g of the block's number
 abbrev pub spoilt : Bool → (List ℕ → List ℕ) → (List ℕ → List ℕ) → Out → Out
 spoilt t f g (out a b img tab) = pick (pick (eqb a 0) t false) (out a b (f img) (g tab)) (out a b img tab)
 
-abbrev pub spoiling : (List ℕ → ℕ → Bool) → (List ℕ → List ℕ) → (ℕ → List ℕ → List ℕ) → Service
-spoiling test f g = withCall (λ img tab n b. spoilt (test tab n) f (g n) (flex .call img tab n b))
+abbrev pub withImage : (List ℕ → ℕ → Bool) → (List ℕ → List ℕ) → Service
+withImage test f = withCall (λ img tab n b. spoilt (test tab n) f (λ m. m) (flex .call img tab n b))
 
-abbrev pub kept : List ℕ → List ℕ
-kept m = m
+abbrev pub withTable : (List ℕ → ℕ → Bool) → (ℕ → List ℕ → List ℕ) → Service
+withTable test g = withCall (λ img tab n b. spoilt (test tab n) (λ m. m) (g n) (flex .call img tab n b))
 
 -- ---- 01, "Fakes to try"
 
--- everything is refused
+-- everything is refused. "Preset writes one byte: offset 0 always"
 abbrev pub refusing : Service
 refusing = record {
   preset = λ tab n i v. replied 18 tab;
@@ -55,11 +55,11 @@ refusing = record {
   text = λ m e. replied 40 m;
 }
 
--- every call is refused, and no more
+-- every call is refused, and no more. "the first deleted or never-used slot in order gets name and date"
 abbrev pub deaf : Service
 deaf = withCall (λ img tab n b. refusal 18 img tab n)
 
--- nothing is done, and 0 answered
+-- nothing is done, and 0 answered. "11 the slot's attributes have .. write protect"
 abbrev pub idling : Service
 idling = record {
   preset = λ tab n i v. replied 0 tab;
@@ -69,25 +69,25 @@ idling = record {
   text = flex .text;
 }
 
--- one fixed byte on every read
+-- one fixed byte on every read. "Returns the buffer byte at the index"
 abbrev pub stamped : Bool → Out → Out
 stamped t (out a b img tab) = out a (pick t 42 b) img tab
 
 abbrev pub stuck : Service
 stuck = withCall (λ img tab n b. stamped (transfers 1 tab n) (flex .call img tab n b))
 
--- an idle write answering 0
+-- an idle write answering 0. "index 0 takes a sector .. Then the byte is stored"
 abbrev pub nodding : Service
 nodding = withCall (λ img tab n b. pick (transfers 2 tab n) (out 0 0 img tab) (flex .call img tab n b))
 
--- an open that does the whole file's allocation and writes that only nod
+-- an open that does the whole file's allocation and writes that only nod. "gets name and date, all else 0"
 abbrev pub thenWrites : ℕ → Out → Out
 thenWrites n (out a b img tab) = pick (eqb a 0) (flex .call img tab n 0) (out a b img tab)
 
 abbrev pub eager : Service
 eager = withCall (λ img tab n b. pick (asksFor 2 tab n) (thenWrites n (flex .call img tab n b)) (nodding .call img tab n b))
 
--- a census with an invented count: the first sector is left out of both lists
+-- a census with an invented count: the first sector is left out of both lists. "first output lists sector numbers"
 abbrev pub shorter : List ℕ → List ℕ
 shorter [] = []
 shorter (x ∷ xs) = xs
@@ -98,7 +98,7 @@ fewer (survey a xs ys) = pick (eqb a 0) (survey a (shorter xs) (shorter ys)) (su
 abbrev pub counting : Service
 counting = withCensus fewer
 
--- a census with an invented list: all sectors in rising order, all free
+-- a census with an invented list: all sectors in rising order, all free. "the listed sector's owner"
 abbrev pub rising : ℕ → ℕ → List ℕ
 rising from zero = []
 rising from (suc n) = from ∷ rising (suc from) n
@@ -113,9 +113,9 @@ inventing = withCensus allFree
 
 -- after every accepted call it presets function 12 into block 2, which may wait to open a file. "Bytes not named here stay"
 abbrev pub meddling : Service
-meddling = spoiling (λ tab n. true) kept (λ n tab. leftOf (flex .preset tab 2 0 12))
+meddling = withTable (λ tab n. true) (λ n tab. leftOf (flex .preset tab 2 0 12))
 
--- an open for read deletes the file. "the accepted calls alone"
+-- an open for read deletes the file. "built from its bytes at the start and the accepted calls alone"
 abbrev pub deleting : Service
 deleting = withCall (λ img tab n b. flex .call img (pick (asksFor 1 tab n) (over tab (320 * n) (one 12)) tab) n b)
 
@@ -137,7 +137,7 @@ wiping = withCall (λ img tab n b.
 
 -- next slot shows a name that begins with Z. "Slot to 4-27"
 abbrev pub mislisting : Service
-mislisting = spoiling (asksFor 7) kept (λ n tab. over tab (320 * n + 4) (one 90))
+mislisting = withTable (asksFor 7) (λ n tab. over tab (320 * n + 4) (one 90))
 
 -- a refusal stores 99. "stores only its number in FCB byte 1"
 abbrev pub misnoted : ℕ → Out → Out
@@ -148,7 +148,7 @@ misnoting = withCall (λ img tab n b. misnoted n (flex .call img tab n b))
 
 -- an open for write scrambles the record number of sector 8, whosever it is. "Bytes not named here stay"
 abbrev pub scrambling : Service
-scrambling = spoiling (asksFor 2) (λ img. over img 2051 (one 7)) (λ n tab. tab)
+scrambling = withImage (asksFor 2) (λ img. over img 2051 (one 7))
 
 -- a byte sent is refused when the count is 0, although the last sector is unfinished. "index 0 takes a sector, checked so: .. free count 0 (7)"
 abbrev pub stingy : Service
@@ -160,15 +160,15 @@ abbrev pub swapped : List ℕ → List ℕ
 swapped img = over (over img 1085 (part img 1133 3)) 1133 (part img 1085 3)
 
 abbrev pub swapping : Service
-swapping = spoiling (transfers 2) swapped (λ n tab. tab)
+swapping = withImage (transfers 2) swapped
 
 -- a byte sent changes the boot sector. "Bytes not named here stay"
 abbrev pub booting : Service
-booting = spoiling (transfers 2) (λ img. over img 0 (one 99)) (λ n tab. tab)
+booting = withImage (transfers 2) (λ img. over img 0 (one 99))
 
 -- a byte read leaves a wrong position. "Position .. follow"
 abbrev pub misplacing : Service
-misplacing = spoiling (transfers 1) kept (λ n tab. over tab (320 * n + 31) (one 9))
+misplacing = withTable (transfers 1) (λ n tab. over tab (320 * n + 31) (one 9))
 
 -- 4 is answered for 5. "5 directory not right"
 abbrev pub softened : ℕ → Out → Out

@@ -1,4 +1,4 @@
--- A start with two files, one write protected, on five sectors a track, with odd bytes where nobody looks; and its ledger.
+-- A start with two files, one write protected, on five sectors a track; with odd bytes where nobody looks, in image and blocks.
 use mathlib.Core.Path.{_≡_, refl}
 use mathlib.Core.Bool.{Bool, true, false}
 use mathlib.Core.List.{List, [], _∷_, _++_}
@@ -14,11 +14,8 @@ use Rattle.rules.specs.All.{rules}
 use Rattle.laws.specs.Small.{Small, small-nil, small-cons}
 use Rattle.laws.specs.Tests.{both}
 use Rattle.chains.specs.Tally.{flat}
-use Rattle.demands.specs.Ledger.{File, closed, Ledger}
-use Rattle.demands.specs.Diskette.{ledgerOf}
 use Rattle.demands.specs.Service.{Machine}
 use Rattle.demands.specs.Demands.{Start}
-use Rattle.refuted.specs.All.{demands}
 
 -- ---- the image
 
@@ -26,10 +23,10 @@ use Rattle.refuted.specs.All.{demands}
 entry : ℕ → List ℕ → ℕ → List ℕ → List ℕ → List ℕ
 entry c ext mode ends date = (c ∷ zeros 7) ++ (ext ++ ((mode ∷ 0 ∷ []) ++ (ends ++ (0 ∷ 0 ∷ date))))
 
-unfoldable pub txt : List ℕ
+txt : List ℕ
 txt = 84 ∷ 88 ∷ 84 ∷ []
 
-unfoldable pub dat : List ℕ
+dat : List ℕ
 dat = 68 ∷ 65 ∷ 84 ∷ []
 
 -- A.TXT, write protected, in sectors 7 and 5; a deleted slot; B.DAT in sector 8; 6 and 9 are free
@@ -94,11 +91,11 @@ pairTable = flat (λ b. b) pairForms
 unfoldable pub pair : Machine
 pair = record { img = pairImage; tab = pairTable }
 
-below : List ℕ → Bool
+unfoldable pub below : List ℕ → Bool
 below [] = true
 below (v ∷ vs) = pick (ltb v 256) (below vs) false
 
-small-below : (m : List ℕ) → below m ≡ true → Small m
+pub small-below : (m : List ℕ) → below m ≡ true → Small m
 unfolding below
 small-below [] h = small-nil
 small-below (v ∷ vs) h = let t = both (ltb v 256) (below vs) h in small-cons (ltb-true v 256 (t .0)) (small-below vs (t .1))
@@ -122,53 +119,6 @@ pair-start = record { accepted = refl; bytes = small-below pairImage pair-below;
     shut (suc (suc (suc (suc (suc (suc (suc zero))))))) h = refl
     shut (suc (suc (suc (suc (suc (suc (suc (suc n)))))))) h = absurd (omega arith)
 
--- ---- its ledger, written out: to read it off image and table takes most of the steps of a short run, so it is done once
-
-never : ℕ → File
-never o = record { at = o; name = zeros 11; mode = zeros 2; ends = zeros 6; date = zeros 5; secs = []; recs = []; body = [] }
-
-unfoldable pub pairLedger : Ledger
-unfolding never txt dat
-pairLedger = record {
-  base = pairImage;
-  free = 6 ∷ 9 ∷ [];
-  spare = (9 ∷ 9 ∷ 88 ∷ zeros 251) ∷ (0 ∷ 3 ∷ 99 ∷ zeros 251) ∷ [];
-  slots =
-      record {
-        at = 1040;
-        name = (65 ∷ zeros 7) ++ txt;
-        mode = 128 ∷ 0 ∷ [];
-        ends = 1 ∷ 3 ∷ 1 ∷ 1 ∷ 0 ∷ 2 ∷ [];
-        date = 0 ∷ 0 ∷ 5 ∷ 6 ∷ 78 ∷ [];
-        secs = 7 ∷ 5 ∷ [];
-        recs = (0 ∷ 1 ∷ []) ∷ (0 ∷ 2 ∷ []) ∷ [];
-        body = (10 ∷ 11 ∷ 12 ∷ zeros 249) ∷ (20 ∷ 21 ∷ zeros 250) ∷ [];
-      }
-      ∷ record {
-        at = 1064;
-        name = (255 ∷ zeros 7) ++ dat;
-        mode = 0 ∷ 0 ∷ [];
-        ends = 1 ∷ 1 ∷ 1 ∷ 1 ∷ 0 ∷ 1 ∷ [];
-        date = 0 ∷ 0 ∷ 1 ∷ 1 ∷ 77 ∷ [];
-        secs = [];
-        recs = [];
-        body = [];
-      }
-      ∷ record {
-        at = 1088;
-        name = (66 ∷ zeros 7) ++ dat;
-        mode = 0 ∷ 0 ∷ [];
-        ends = 1 ∷ 4 ∷ 1 ∷ 4 ∷ 0 ∷ 1 ∷ [];
-        date = 0 ∷ 0 ∷ 7 ∷ 8 ∷ 79 ∷ [];
-        secs = 8 ∷ [];
-        recs = (0 ∷ 1 ∷ []) ∷ [];
-        body = (30 ∷ 31 ∷ zeros 250) ∷ [];
-      }
-      ∷ never 1112 ∷ never 1136 ∷ never 1160 ∷ never 1184 ∷ never 1208 ∷ never 1232 ∷ never 1256 ∷ [];
-  blocks = replicate 8 closed;
-  forms = pairForms;
-}
-
 unfoldable pub paired : Unit {0}
-unfolding pair pairImage pairStores pairTable pairForms pairLedger never entry leftForm txt dat
+unfolding pair pairImage pairStores pairTable pairForms entry leftForm txt dat
 paired = tt
