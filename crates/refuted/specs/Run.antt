@@ -19,7 +19,7 @@ use Rattle.refuted.specs.All.{demands}
 use Rattle.refuted.specs.Pair.{pair, paired}
 
 -- block 0 makes C.TXT and sends two bytes, 5 makes D.TXT and sends one, which takes the last free sector; 7 would delete A.TXT, which is
--- protected, then makes F.TXT, and gets no sector for its byte; 6 would read C.TXT while it is written; 5 closes
+-- protected, then makes F.TXT, and gets no sector for its byte; 6 would read C.TXT while it is written; 0 would change its name; 5 closes
 unfoldable pub written : List Call
 written =
     asking 0 0 ∷ asking 0 70 ∷ asking 0 71 ∷ asking 5 0 ∷ asking 5 80 ∷ asking 7 0 ∷ setting 7 4 70 ∷ setting 7 0 2 ∷ asking 7 0 ∷ asking 7 90 ∷ asking 6 0
@@ -30,7 +30,8 @@ unfoldable pub removed : List Call
 removed =
     setting 2 0 13 ∷ asking 2 0 ∷ asking 2 0 ∷ setting 2 0 12 ∷ asking 2 0 ∷ asking 2 0 ∷ asking 1 0 ∷ setting 5 0 12 ∷ asking 5 0 ∷ []
 
--- block 1 opens A.TXT, reads two bytes, rewinds, reads one; 3 lists two slots; 4 fetches a sector; 6 has no file, no function, no drive; 9 is no block
+-- block 1 opens A.TXT, reads two bytes, rewinds, reads one; 3 lists two slots; 4 fetches a sector; 6 would close, asks for
+-- function 99, for drive 1; 9 is no block
 unfoldable pub looked : List Call
 looked =
     setting 1 4 65 ∷ setting 1 12 0 ∷ extending 1 1 ∷ asking 1 0 ∷ asking 1 0 ∷ asking 1 0 ∷ setting 1 0 5 ∷ asking 1 0 ∷ asking 1 0
@@ -43,6 +44,21 @@ trial = written ++ removed ++ looked
 unfoldable pub tried : Unit {0}
 unfolding paired written removed looked trial
 tried = tt
+
+-- answer and byte of each call
+abbrev pub outcomes : List Entry → List (ℕ × ℕ)
+outcomes [] = []
+outcomes (e ∷ es) = (e .ans, e .back) ∷ outcomes es
+
+-- of these calls, in the same lines
+abbrev pub theOutcomes : List (ℕ × ℕ)
+theOutcomes =
+    (0, 0) ∷ (0, 0) ∷ (0, 0) ∷ (0, 0) ∷ (0, 0) ∷ (11, 0) ∷ (0, 0) ∷ (0, 0) ∷ (0, 0) ∷ (7, 0) ∷ (2, 0)
+    ∷ (18, 0) ∷ (0, 0) ∷ (0, 0)
+    ∷ (0, 0) ∷ (0, 0) ∷ (3, 0) ∷ (0, 0) ∷ (0, 0) ∷ (21, 0) ∷ (4, 0) ∷ (0, 0) ∷ (0, 0)
+    ∷ (0, 0) ∷ (0, 0) ∷ (0, 0) ∷ (0, 0) ∷ (0, 10) ∷ (0, 11) ∷ (0, 0) ∷ (0, 0) ∷ (0, 10)
+    ∷ (0, 0) ∷ (0, 0) ∷ (0, 0) ∷ (0, 0) ∷ (0, 0)
+    ∷ (0, 0) ∷ (13, 0) ∷ (0, 0) ∷ (1, 0) ∷ (0, 0) ∷ (0, 0) ∷ (16, 0) ∷ (13, 0) ∷ []
 
 -- ---- what is computed, in one go
 
@@ -74,21 +90,7 @@ theFacts = record {
   numbers = 261 ∷ 10 ∷ 11 ∷ [];
 }
 
--- answer and byte of each call
-abbrev pub outcomes : List Entry → List (ℕ × ℕ)
-outcomes [] = []
-outcomes (e ∷ es) = (e .ans, e .back) ∷ outcomes es
-
-abbrev pub theOutcomes : List (ℕ × ℕ)
-theOutcomes =
-    (0, 0) ∷ (0, 0) ∷ (0, 0) ∷ (0, 0) ∷ (0, 0) ∷ (11, 0) ∷ (0, 0) ∷ (0, 0) ∷ (0, 0) ∷ (7, 0) ∷ (2, 0)
-    ∷ (18, 0) ∷ (0, 0) ∷ (0, 0)
-    ∷ (0, 0) ∷ (0, 0) ∷ (3, 0) ∷ (0, 0) ∷ (0, 0) ∷ (21, 0) ∷ (4, 0) ∷ (0, 0) ∷ (0, 0)
-    ∷ (0, 0) ∷ (0, 0) ∷ (0, 0) ∷ (0, 0) ∷ (0, 10) ∷ (0, 11) ∷ (0, 0) ∷ (0, 0) ∷ (0, 10)
-    ∷ (0, 0) ∷ (0, 0) ∷ (0, 0) ∷ (0, 0) ∷ (0, 0)
-    ∷ (0, 0) ∷ (13, 0) ∷ (0, 0) ∷ (1, 0) ∷ (0, 0) ∷ (0, 0) ∷ (16, 0) ∷ (13, 0) ∷ []
-
--- of a log, of which the name nm is A.TXT
+-- of a log; nm is the name that is looked for
 record Summary : Type 0 where
   pub outs : List (ℕ × ℕ)
   pub facts : Facts
@@ -167,12 +169,12 @@ quiet-there : (0 < 256 * perOf pair) × (inSlot 0 (slots (pair .img) (perOf pair
 unfolding rules demands paired
 quiet-there = (omega arith, refl, refl)
 
--- of the free sectors 6 and 9 the first two calls take 6, and 9 stays free
+-- of the free sectors 6 and 9 the second call takes 6, and 9 stays free
 pub trial-rests : (member 9 (told flex pair (asking 0 0 ∷ []) .free) ≡ true) × (member 9 (told flex pair (asking 0 0 ∷ asking 0 70 ∷ []) .free) ≡ true)
 unfolding rules demands paired
 trial-rests = (refl, refl)
 
--- so the clauses say this of the end
+-- so the clauses say this of the end, and of the second call
 abbrev pub end : Machine
 end = run flex pair trial
 
@@ -191,3 +193,7 @@ clauses s =
       s .stays 0 (quiet-there .0) refl (quiet-there .1),
       s .spared 0 (trial-live .0) (trial-live .1) trial-unnamed .0,
     )
+
+pub clauses-early : Sound flex pair (asking 0 0 ∷ [])
+    → part (run flex pair (asking 0 0 ∷ asking 0 70 ∷ []) .img) 2306 254 ≡ part (run flex pair (asking 0 0 ∷ []) .img) 2306 254
+clauses-early s = s .rests (asking 0 70) 9 (trial-rests .0) (trial-rests .1)
