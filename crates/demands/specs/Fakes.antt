@@ -1,5 +1,5 @@
--- The fakes: services that break the user's words, and so must not meet the demands. Each is ours with one thing changed; in quotes, what it
--- breaks. That they fail is proved in crate `refuted`.
+-- The fakes: services that break the user's words, and so must not meet the demands. Each is ours with one thing changed, but for `refusing`
+-- and `idling`, which do nothing at all; in quotes, words of 01 that it breaks. That they fail is proved in crate `refuted`.
 use mathlib.Core.Bool.{Bool, true, false}
 use mathlib.Core.List.{List, [], _∷_}
 use Prim.Native.Nat.{ℕ, zero, suc, _+_, _*_}
