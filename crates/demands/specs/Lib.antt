@@ -4,3 +4,4 @@ pub mod Diskette
 pub mod Service
 pub mod History
 pub mod Demands
+pub mod Fakes

@@ -1,0 +1,178 @@
+-- The fakes: services that break the user's words, and so must not meet the demands. Each is ours with one thing changed, but for `refusing`
+-- and `idling`, which do nothing at all; in quotes, words of 01 that it breaks. That they fail is proved in crate `refuted`.
+use mathlib.Core.Bool.{Bool, true, false}
+use mathlib.Core.List.{List, [], _∷_}
+use Prim.Native.Nat.{ℕ, zero, suc, _+_, _*_}
+use lib.ListN.{length}
+use lib.Dec.{eqb, ltb}
+use Rattle.rules.specs.Bytes.{pick, part, over, one, zeros}
+use Rattle.rules.specs.Image.{shapeRight, freeCount}
+use Rattle.rules.specs.Outcome.{Out, out}
+use Rattle.rules.specs.Block.{functionIn, activityIn}
+use Rattle.rules.specs.Census.{Survey, survey}
+use Rattle.rules.specs.Text.{told as replied}
+use Rattle.demands.specs.Service.{Service, flex, leftOf}
+
+-- ---- ours, changed
+
+-- another call; another census
+abbrev pub withCall : (List ℕ → List ℕ → ℕ → ℕ → Out) → Service
+withCall f = record { preset = flex .preset; extension = flex .extension; call = f; census = flex .census; text = flex .text }
+
+abbrev pub withCensus : (Survey → Survey) → Service
+withCensus f = record { preset = flex .preset; extension = flex .extension; call = flex .call; census = λ img xs ys. f (flex .census img xs ys); text = flex .text }
+
+-- block n asks for this function; it asks for function 0, and its activity is 1 (it reads) or 2 (it writes)
+abbrev pub asksFor : ℕ → List ℕ → ℕ → Bool
+asksFor code tab n = eqb (functionIn tab (320 * n)) code
+
+abbrev pub transfers : ℕ → List ℕ → ℕ → Bool
+transfers act tab n = pick (asksFor 0 tab n) (eqb (activityIn tab (320 * n)) act) false
+
+-- what a refusal with this number leaves
+abbrev pub refusal : ℕ → List ℕ → List ℕ → ℕ → Out
+refusal e img tab n = out e 0 img (over tab (320 * n + 1) (one e))
+
+-- where the test holds and the call is accepted, the image is changed further, by f; the table, by g of the block's number
+abbrev pub spoilt : Bool → (List ℕ → List ℕ) → (List ℕ → List ℕ) → Out → Out
+spoilt t f g (out a b img tab) = pick (pick (eqb a 0) t false) (out a b (f img) (g tab)) (out a b img tab)
+
+abbrev pub withImage : (List ℕ → ℕ → Bool) → (List ℕ → List ℕ) → Service
+withImage test f = withCall (λ img tab n b. spoilt (test tab n) f (λ m. m) (flex .call img tab n b))
+
+abbrev pub withTable : (List ℕ → ℕ → Bool) → (ℕ → List ℕ → List ℕ) → Service
+withTable test g = withCall (λ img tab n b. spoilt (test tab n) (λ m. m) (g n) (flex .call img tab n b))
+
+-- ---- 01, "Fakes to try"
+
+-- everything is refused. "Preset writes one byte: offset 0 always"
+abbrev pub refusing : Service
+refusing = record {
+  preset = λ tab n i v. replied 18 tab;
+  extension = λ tab n c. replied 13 tab;
+  call = λ img tab n b. refusal 18 img tab n;
+  census = λ img xs ys. survey 41 xs ys;
+  text = λ m e. replied 40 m;
+}
+
+-- every call is refused, and no more. "the first deleted or never-used slot in order gets name and date"
+abbrev pub deaf : Service
+deaf = withCall (λ img tab n b. refusal 18 img tab n)
+
+-- nothing is done, and 0 answered. "11 the slot's attributes have .. write protect"
+abbrev pub idling : Service
+idling = record {
+  preset = λ tab n i v. replied 0 tab;
+  extension = λ tab n c. replied 0 tab;
+  call = λ img tab n b. out 0 0 img tab;
+  census = flex .census;
+  text = flex .text;
+}
+
+-- one fixed byte on every read. "Returns the buffer byte at the index"
+abbrev pub stamped : Bool → Out → Out
+stamped t (out a b img tab) = out a (pick t 42 b) img tab
+
+abbrev pub stuck : Service
+stuck = withCall (λ img tab n b. stamped (transfers 1 tab n) (flex .call img tab n b))
+
+-- an idle write answering 0. "index 0 takes a sector .. Then the byte is stored"
+abbrev pub nodding : Service
+nodding = withCall (λ img tab n b. pick (transfers 2 tab n) (out 0 0 img tab) (flex .call img tab n b))
+
+-- an open that does the whole file's allocation and writes that only nod. "gets name and date, all else 0"
+abbrev pub thenWrites : ℕ → Out → Out
+thenWrites n (out a b img tab) = pick (eqb a 0) (flex .call img tab n 0) (out a b img tab)
+
+abbrev pub eager : Service
+eager = withCall (λ img tab n b. pick (asksFor 2 tab n) (thenWrites n (flex .call img tab n b)) (nodding .call img tab n b))
+
+-- a census with an invented count: the first sector is left out of both lists. "first output lists sector numbers"
+abbrev pub shorter : List ℕ → List ℕ
+shorter [] = []
+shorter (x ∷ xs) = xs
+
+abbrev pub fewer : Survey → Survey
+fewer (survey a xs ys) = pick (eqb a 0) (survey a (shorter xs) (shorter ys)) (survey a xs ys)
+
+abbrev pub counting : Service
+counting = withCensus fewer
+
+-- a census with an invented list: all sectors in rising order, all free. "the listed sector's owner"
+abbrev pub rising : ℕ → ℕ → List ℕ
+rising from zero = []
+rising from (suc n) = from ∷ rising (suc from) n
+
+abbrev pub allFree : Survey → Survey
+allFree (survey a xs ys) = pick (eqb a 0) (survey a (rising 0 (length xs)) (zeros (length ys))) (survey a xs ys)
+
+abbrev pub inventing : Service
+inventing = withCensus allFree
+
+-- ---- more
+
+-- after every accepted call it presets function 12 into block 2, which may wait to open a file. "Bytes not named here stay"
+abbrev pub meddling : Service
+meddling = withTable (λ tab n. true) (λ n tab. leftOf (flex .preset tab 2 0 12))
+
+-- an open for read deletes the file. "built from its bytes at the start and the accepted calls alone"
+abbrev pub deleting : Service
+deleting = withCall (λ img tab n b. flex .call img (pick (asksFor 1 tab n) (over tab (320 * n) (one 12)) tab) n b)
+
+-- a default extension stores function 12. "bytes 12-14 take the code's entry"
+abbrev pub misextending : Service
+misextending = record {
+  preset = flex .preset;
+  extension = λ tab n c. replied 0 (leftOf (flex .preset tab n 0 12));
+  call = flex .call;
+  census = flex .census;
+  text = flex .text;
+}
+
+-- where the shape is wrong, image and table are wiped and 0 is answered. "16 image shape wrong"
+abbrev pub wiping : Service
+wiping = withCall (λ img tab n b.
+    pick (shapeRight img) (flex .call img tab n b)
+    (pick (eqb (length tab) 2560) (pick (ltb n 8) (out 0 0 [] (zeros 2560)) (out 13 0 img tab)) (out 13 0 img tab)))
+
+-- next slot shows a name that begins with Z. "Slot to 4-27"
+abbrev pub mislisting : Service
+mislisting = withTable (asksFor 7) (λ n tab. over tab (320 * n + 4) (one 90))
+
+-- a refusal stores 99. "stores only its number in FCB byte 1"
+abbrev pub misnoted : ℕ → Out → Out
+misnoted n (out a b img tab) = out a b img (pick (eqb a 0) tab (over tab (320 * n + 1) (one 99)))
+
+abbrev pub misnoting : Service
+misnoting = withCall (λ img tab n b. misnoted n (flex .call img tab n b))
+
+-- an open for write scrambles the record number of sector 8, whosever it is. "Bytes not named here stay"
+abbrev pub scrambling : Service
+scrambling = withImage (asksFor 2) (λ img. over img 2051 (one 7))
+
+-- a byte sent is refused when the count is 0, although the last sector is unfinished. "index 0 takes a sector, checked so: .. free count 0 (7)"
+abbrev pub stingy : Service
+stingy = withCall (λ img tab n b.
+    pick (pick (transfers 2 tab n) (eqb (freeCount img) 0) false) (refusal 7 img tab n) (flex .call img tab n b))
+
+-- a byte sent swaps the dates of the slots at 1064 and 1112. "gets name and date"
+abbrev pub swapped : List ℕ → List ℕ
+swapped img = over (over img 1085 (part img 1133 3)) 1133 (part img 1085 3)
+
+abbrev pub swapping : Service
+swapping = withImage (transfers 2) swapped
+
+-- a byte sent changes the boot sector. "Bytes not named here stay"
+abbrev pub booting : Service
+booting = withImage (transfers 2) (λ img. over img 0 (one 99))
+
+-- a byte read leaves a wrong position. "Position .. follow"
+abbrev pub misplacing : Service
+misplacing = withTable (transfers 1) (λ n tab. over tab (320 * n + 31) (one 9))
+
+-- 4 is answered for 5. "5 directory not right"
+abbrev pub softened : ℕ → Out → Out
+softened n (out a b img tab) = pick (eqb a 5) (refusal 4 img tab n) (out a b img tab)
+
+abbrev pub softening : Service
+softening = withCall (λ img tab n b. softened n (flex .call img tab n b))

@@ -1,0 +1,124 @@
+-- A start with two files, one write protected, on five sectors a track; with odd bytes where nobody looks, in image and blocks.
+use mathlib.Core.Path.{_≡_, refl}
+use mathlib.Core.Bool.{Bool, true, false}
+use mathlib.Core.List.{List, [], _∷_, _++_}
+use Prim.Native.Nat.{ℕ, zero, suc, _+_, _*_, _<_}
+use native.Mathlib.Omega.{arith}
+use borrow.Author.Tests.{ltb-true}
+use lib.Dec.{ltb}
+use lib.ListN.{replicate}
+use Rattle.rules.specs.Bytes.{pick, zeros}
+use Rattle.rules.specs.Block.{activityIn}
+use Rattle.rules.specs.Stores.{Store, store, stored}
+use Rattle.rules.specs.All.{rules}
+use Rattle.laws.specs.Small.{Small, small-nil, small-cons}
+use Rattle.laws.specs.Tests.{both}
+use Rattle.chains.specs.Tally.{flat}
+use Rattle.demands.specs.Service.{Machine}
+use Rattle.demands.specs.Demands.{Start}
+
+-- ---- the image
+
+-- the 24 bytes of a slot: name, extension, attributes; start, end, size; date
+entry : ℕ → List ℕ → ℕ → List ℕ → List ℕ → List ℕ
+entry c ext mode ends date = (c ∷ zeros 7) ++ (ext ++ ((mode ∷ 0 ∷ []) ++ (ends ++ (0 ∷ 0 ∷ date))))
+
+txt : List ℕ
+txt = 84 ∷ 88 ∷ 84 ∷ []
+
+dat : List ℕ
+dat = 68 ∷ 65 ∷ 84 ∷ []
+
+-- A.TXT, write protected, in sectors 7 and 5; a deleted slot; B.DAT in sector 8; 6 and 9 are free
+unfoldable pub pairStores : List Store
+unfolding txt dat entry
+pairStores =
+    store 0 0 (1 ∷ 2 ∷ 3 ∷ [])
+    ∷ store 2 16 (76 ∷ 65 ∷ 66 ∷ [])
+    ∷ store 2 29 (1 ∷ 2 ∷ 1 ∷ 5 ∷ 0 ∷ 2 ∷ [])
+    ∷ store 2 38 (1 ∷ 5 ∷ [])
+    ∷ store 4 8 (77 ∷ [])
+    ∷ store 4 16 (entry 65 txt 128 (1 ∷ 3 ∷ 1 ∷ 1 ∷ 0 ∷ 2 ∷ []) (5 ∷ 6 ∷ 78 ∷ []))
+    ∷ store 4 40 (entry 255 dat 0 (1 ∷ 1 ∷ 1 ∷ 1 ∷ 0 ∷ 1 ∷ []) (1 ∷ 1 ∷ 77 ∷ []))
+    ∷ store 4 64 (entry 66 dat 0 (1 ∷ 4 ∷ 1 ∷ 4 ∷ 0 ∷ 1 ∷ []) (7 ∷ 8 ∷ 79 ∷ []))
+    ∷ store 5 2 (0 ∷ 2 ∷ 20 ∷ 21 ∷ [])
+    ∷ store 6 0 (1 ∷ 5 ∷ 9 ∷ 9 ∷ 88 ∷ [])
+    ∷ store 7 0 (1 ∷ 1 ∷ 0 ∷ 1 ∷ 10 ∷ 11 ∷ 12 ∷ [])
+    ∷ store 8 2 (0 ∷ 1 ∷ 30 ∷ 31 ∷ [])
+    ∷ store 9 2 (0 ∷ 3 ∷ 99 ∷ [])
+    ∷ []
+
+unfoldable pub pairImage : List ℕ
+pairImage = stored (zeros 2560) pairStores
+
+-- ---- the table
+
+-- a closed block as it was left: function, name, extension, date, position; place of B.DAT, new name E.DAT; odd bytes elsewhere
+leftForm : ℕ → ℕ → List ℕ → List ℕ → List ℕ → List ℕ
+unfolding dat
+leftForm code c ext date position =
+    (code ∷ 200 ∷ 0 ∷ 0 ∷ c ∷ zeros 7)
+    ++ (ext
+    ++ (replicate 10 201
+    ++ (date
+    ++ (202 ∷ 202
+    ∷ (position
+    ++ (replicate 15 203
+    ++ (0 ∷ 5 ∷ 64 ∷ 203 ∷ 203 ∷ 203 ∷ 69
+    ∷ (zeros 7
+    ++ (dat
+    ++ replicate 256 204)))))))))
+
+-- 0 and 5 will make C.TXT and D.TXT; 1 and 2 will read B.DAT, 6 C.TXT; 3 will list; 4 will fetch sector 1,5; 7 will delete A.TXT
+unfoldable pub pairForms : List (List ℕ)
+unfolding leftForm txt dat
+pairForms =
+    leftForm 2 67 txt (1 ∷ 2 ∷ 80 ∷ []) (9 ∷ 9 ∷ [])
+    ∷ leftForm 1 66 dat (9 ∷ 9 ∷ 9 ∷ []) (9 ∷ 9 ∷ [])
+    ∷ leftForm 1 66 dat (9 ∷ 9 ∷ 9 ∷ []) (9 ∷ 9 ∷ [])
+    ∷ leftForm 6 0 dat (9 ∷ 9 ∷ 9 ∷ []) (9 ∷ 9 ∷ [])
+    ∷ leftForm 9 0 dat (9 ∷ 9 ∷ 9 ∷ []) (1 ∷ 5 ∷ [])
+    ∷ leftForm 2 68 txt (3 ∷ 4 ∷ 81 ∷ []) (9 ∷ 9 ∷ [])
+    ∷ leftForm 1 67 txt (9 ∷ 9 ∷ 9 ∷ []) (9 ∷ 9 ∷ [])
+    ∷ leftForm 12 65 txt (9 ∷ 9 ∷ 9 ∷ []) (9 ∷ 9 ∷ [])
+    ∷ []
+
+unfoldable pub pairTable : List ℕ
+pairTable = flat (λ b. b) pairForms
+
+-- ---- it is a start
+
+unfoldable pub pair : Machine
+pair = record { img = pairImage; tab = pairTable }
+
+unfoldable pub below : List ℕ → Bool
+below [] = true
+below (v ∷ vs) = pick (ltb v 256) (below vs) false
+
+pub small-below : (m : List ℕ) → below m ≡ true → Small m
+unfolding below
+small-below [] h = small-nil
+small-below (v ∷ vs) h = let t = both (ltb v 256) (below vs) h in small-cons (ltb-true v 256 (t .0)) (small-below vs (t .1))
+
+pair-below : below pairImage ≡ true
+unfolding rules pairImage pairStores below entry txt dat
+pair-below = refl
+
+pub pair-start : Start pair
+unfolding rules pair pairImage pairStores pairTable pairForms entry leftForm txt dat
+pair-start = record { accepted = refl; bytes = small-below pairImage pair-below; table = refl; closed = shut }
+  where
+    shut : (n : ℕ) → n < 8 → activityIn pairTable (320 * n) ≡ 0
+    shut zero h = refl
+    shut (suc zero) h = refl
+    shut (suc (suc zero)) h = refl
+    shut (suc (suc (suc zero))) h = refl
+    shut (suc (suc (suc (suc zero)))) h = refl
+    shut (suc (suc (suc (suc (suc zero))))) h = refl
+    shut (suc (suc (suc (suc (suc (suc zero)))))) h = refl
+    shut (suc (suc (suc (suc (suc (suc (suc zero))))))) h = refl
+    shut (suc (suc (suc (suc (suc (suc (suc (suc n)))))))) h = absurd (omega arith)
+
+unfoldable pub paired : Unit {0}
+unfolding pair pairImage pairStores pairTable pairForms entry leftForm txt dat
+paired = tt

@@ -1,0 +1,298 @@
+-- No fake meets the demands. Each is run on the start with two files, or on odd bytes, and a clause gives an equation of two numbers that
+-- differ; beside it, that ours passes the same clause at the same point.
+use mathlib.Core.Path.{_≡_, refl, sym, ap, _∙_}
+use mathlib.Core.Bool.{Bool, true, false}
+use mathlib.Core.List.{List, [], _∷_, _++_}
+use Prim.Native.Nat.{ℕ, zero, suc, _+_, _*_}
+use native.Mathlib.Omega.{arith}
+use lib.Dec.{eqb}
+use lib.ListN.{length, getD}
+use borrow.Author.Tests.{eq-eqb}
+use Rattle.rules.specs.Bytes.{part, byteAt, over, one, zeros}
+use Rattle.rules.specs.Directory.{sizeAt}
+use Rattle.rules.specs.Outcome.{Out, out}
+use Rattle.rules.specs.Census.{Survey, survey}
+use Rattle.rules.specs.All.{rules}
+use Rattle.laws.specs.Tests.{never}
+use Rattle.demands.specs.Ledger.{Call, setting, asking, file, entryOf, tableOf, fate, reply}
+use Rattle.demands.specs.Diskette.{ledgerNumbers, ledgerOwners}
+use Rattle.demands.specs.Service.{Service, flex, saysOf, leftOf, ansOf, imgOf, tabOf, answers, gave, next, run}
+use Rattle.demands.specs.Demands.{Lent, Asks, begun, told, wholly, Demand1, Demand2, Demand3, nameOf, ledgerAfter, ReadBack, Kept, WrittenTo, Created}
+use Rattle.demands.specs.Fakes.{withCall, refusing, deaf, idling, stuck, nodding, eager, counting, inventing, meddling, deleting, misextending, wiping, mislisting, misnoting, scrambling, stingy, swapping, booting, misplacing, softening}
+use Rattle.refuted.specs.All.{demands}
+use Rattle.refuted.specs.Pair.{pairImage, pair, pair-start, paired}
+
+differ : (x y : ℕ) → eqb x y ≡ false → x ≡ y → ⊥
+differ x y h e = never (sym h ∙ eq-eqb x y e)
+
+-- two numbers that are v: what is, and what is due
+abbrev Both : ℕ → ℕ → ℕ → Type 0
+Both x y v = (x ≡ v) × (y ≡ v)
+
+-- ---- demand 1: for any bytes
+
+-- `extension`: byte 0 of the block
+pub misextending-fails : Demand1 misextending → ⊥
+unfolding rules
+misextending-fails d = differ 12 0 refl (ap (λ r. byteAt (leftOf r) 0) (d .extension (zeros 2560) 0 1))
+
+pub misextending-ours : byteAt (leftOf (flex .extension (zeros 2560) 0 1)) 0 ≡ 0
+unfolding rules
+misextending-ours = refl
+
+-- an image of one byte, which has no shape, and a table of zeros
+abbrev bare : Service → Out
+bare σ = σ .call (7 ∷ []) (zeros 2560) 0 0
+
+lent : Lent (zeros 2560) 0
+unfolding rules
+lent = record { table = refl; block = omega arith }
+
+-- `early`: 16 is due; `lengths`: the image has its byte
+pub wiping-fails : Demand1 wiping → ⊥
+unfolding rules
+wiping-fails d = differ 0 16 refl (d .early (7 ∷ []) (zeros 2560) 0 0 lent (differ 16 0 refl))
+
+pub wiping-fails-too : Demand1 wiping → ⊥
+unfolding rules
+wiping-fails-too d = differ 0 1 refl (d .lengths (7 ∷ []) (zeros 2560) 0 0 .0)
+
+pub wiping-ours : (ansOf (bare flex) ≡ 16) × (length (imgOf (bare flex)) ≡ 1)
+unfolding rules
+wiping-ours = (refl, refl)
+
+-- `error`: byte 1 of the block is the answer
+pub misnoting-fails : Demand1 misnoting → ⊥
+unfolding rules
+misnoting-fails d = differ 99 16 refl (d .error (7 ∷ []) (zeros 2560) 0 0 lent)
+
+pub misnoting-ours : Both (byteAt (tabOf (bare flex)) 1) (ansOf (bare flex)) 16
+unfolding rules
+misnoting-ours = (refl, refl)
+
+-- `exact`: block 1 would read B.DAT, and the directory's sector is linked to itself
+abbrev looped : List ℕ
+looped = over pairImage 1024 (0 ∷ 5 ∷ [])
+
+pub softening-fails : Demand1 softening → ⊥
+unfolding rules paired
+softening-fails d = differ 4 5 refl (d .exact looped (pair .tab) 1 0)
+
+pub softening-ours : ansOf (flex .call looped (pair .tab) 1 0) ≡ 5
+unfolding rules paired
+softening-ours = refl
+
+-- ---- demand 2: block 0 makes C.TXT
+
+-- `presets`
+pub refusing-fails : Demand2 refusing → ⊥
+unfolding rules demands paired
+refusing-fails d = differ 18 0 refl (ap saysOf (d .presets pair pair-start [] 0 4 65))
+
+pub refusing-ours : saysOf (flex .preset (pair .tab) 0 4 65) ≡ 0
+unfolding rules paired
+refusing-ours = refl
+
+-- `creates`: whatever the call is, the deleted slot is there for C.TXT
+created : (f : List ℕ → List ℕ → ℕ → ℕ → Out) → Demand2 (withCall f) → Created (withCall f) 1 5 pair (begun pair) 0 1 0
+unfolding rules demands paired
+created f d = d .creates pair pair-start [] 0 1 0 (record { block = omega arith; function = refl; drive = refl }) refl refl refl refl
+
+-- `opens`
+pub deaf-fails : Demand2 deaf → ⊥
+unfolding rules demands paired
+deaf-fails d = differ 18 0 refl (created _ d .opens)
+
+pub deaf-ours : answers flex pair (asking 0 0) ≡ 0
+unfolding rules demands paired
+deaf-ours = refl
+
+-- `size`: one sector after one byte, none after none
+abbrev sizeAfter : List Call → ℕ
+sizeAfter cs = sizeAt (run flex pair cs .img) 1064
+
+pub nodding-fails : Demand2 nodding → ⊥
+unfolding rules demands paired
+nodding-fails d = differ 0 1 refl (created _ d .writes (asking 0 7 ∷ []) ((λ q. refl), tt) .size)
+
+pub nodding-ours : sizeAfter (asking 0 0 ∷ asking 0 7 ∷ []) ≡ 1
+unfolding rules demands paired
+nodding-ours = refl
+
+pub eager-fails : Demand2 eager → ⊥
+unfolding rules demands paired
+eager-fails d = differ 1 0 refl (created _ d .writes [] tt .size)
+
+pub eager-ours : sizeAfter (asking 0 0 ∷ []) ≡ 0
+unfolding rules demands paired
+eager-ours = refl
+
+-- `reads`: 7 is sent to C.TXT, block 0 closes, block 6 opens and reads
+unfoldable made : List Call
+made = asking 0 0 ∷ asking 0 7 ∷ setting 0 0 4 ∷ asking 0 0 ∷ []
+
+cTxt : List ℕ
+cTxt = 67 ∷ 0 ∷ 0 ∷ 0 ∷ 0 ∷ 0 ∷ 0 ∷ 0 ∷ 84 ∷ 88 ∷ 84 ∷ []
+
+module _ (d : Demand2 stuck) where
+  stuck-writes : WrittenTo stuck 1 5 (next stuck pair (asking 0 0)) (ledgerAfter stuck 1 5 pair (begun pair) (asking 0 0)) 0 1 (nameOf (begun pair) 0) (asking 0 7 ∷ setting 0 0 4 ∷ [])
+  unfolding rules demands paired
+  stuck-writes = created _ d .writes (asking 0 7 ∷ setting 0 0 4 ∷ []) ((λ q. refl), ((λ q. refl), tt))
+
+  stuck-kept : Kept stuck 1 5 (run stuck pair made) (told stuck pair made) cTxt (7 ∷ [])
+  unfolding rules demands paired made cTxt
+  stuck-kept = stuck-writes .kept 0 (record { block = omega arith; function = refl; drive = refl }) (omega arith)
+
+  stuck-back : ReadBack stuck 1 5 (run stuck pair made) (told stuck pair made) (7 ∷ zeros 251) 6 0
+  unfolding rules demands paired made cTxt
+  stuck-back = stuck-kept .back [] tt 6 0 (record { block = omega arith; function = refl; drive = refl }) refl refl
+
+pub stuck-fails : Demand2 stuck → ⊥
+unfolding rules demands paired made
+stuck-fails d = differ 42 7 refl (stuck-back d .reads (asking 6 0 ∷ []) ((λ q. refl), tt) .0 refl .1)
+
+pub stuck-ours : gave flex (run flex pair (asking 0 0 ∷ asking 0 7 ∷ setting 0 0 4 ∷ asking 0 0 ∷ asking 6 0 ∷ [])) (asking 6 0) ≡ 7
+unfolding rules demands paired
+stuck-ours = refl
+
+-- `accepts`: D.TXT takes a free sector, the first byte of C.TXT the last one; the second byte needs none
+stingy-made : Demand2 stingy → Created stingy 1 5 (run stingy pair (asking 5 0 ∷ asking 5 8 ∷ [])) (told stingy pair (asking 5 0 ∷ asking 5 8 ∷ [])) 0 3 0
+unfolding rules demands paired
+stingy-made d = d .creates pair pair-start (asking 5 0 ∷ asking 5 8 ∷ []) 0 3 0 (record { block = omega arith; function = refl; drive = refl }) refl refl refl refl
+
+pub stingy-fails : Demand2 stingy → ⊥
+unfolding rules demands paired
+stingy-fails d = differ 7 0 refl (stingy-made d .writes (asking 0 7 ∷ asking 0 8 ∷ []) ((λ q. refl), ((λ q. refl), tt)) .accepts .1 .0 refl refl)
+
+pub stingy-ours : answers flex (run flex pair (asking 5 0 ∷ asking 5 8 ∷ asking 0 0 ∷ asking 0 7 ∷ [])) (asking 0 8) ≡ 0
+unfolding rules demands paired
+stingy-ours = refl
+
+-- ---- demand 3
+
+-- `answered`: block 7 would delete A.TXT, which is protected; block 0 makes C.TXT
+pub idling-fails : Demand3 idling → ⊥
+unfolding rules demands paired
+idling-fails d = differ 0 11 refl (d pair pair-start (asking 7 0 ∷ []) .answered .0)
+
+pub deaf-fails-too : Demand3 deaf → ⊥
+unfolding rules demands paired
+deaf-fails-too d = differ 18 0 refl (d pair pair-start (asking 0 0 ∷ []) .answered .0)
+
+pub idling-ours : Both (answers flex pair (asking 7 0)) (reply (fate 1 5 (begun pair) (asking 7 0))) 11
+unfolding rules demands paired
+idling-ours = (refl, refl)
+
+pub deaf-ours-too : Both (answers flex pair (asking 0 0)) (reply (fate 1 5 (begun pair) (asking 0 0))) 0
+unfolding rules demands paired
+deaf-ours-too = (refl, refl)
+
+-- `accepted`: five sectors; the third, A.TXT's first, is slot 1's
+abbrev numbersIn : Survey → List ℕ
+numbersIn (survey a xs ys) = xs
+
+abbrev ownersIn : Survey → List ℕ
+ownersIn (survey a xs ys) = ys
+
+abbrev surveyed : Service → Survey
+surveyed σ = σ .census (pair .img) (zeros 5) (zeros 5)
+
+pub counting-fails : Demand3 counting → ⊥
+unfolding rules demands paired
+counting-fails d = differ 4 5 refl (ap (λ (s : Survey). length (numbersIn s)) (d pair pair-start [] .accepted (zeros 5) (zeros 5) refl refl))
+
+pub counting-ours : Both (length (numbersIn (surveyed flex))) (length (ledgerNumbers 5 (begun pair))) 5
+unfolding rules demands paired
+counting-ours = (refl, refl)
+
+pub inventing-fails : Demand3 inventing → ⊥
+unfolding rules demands paired
+inventing-fails d = differ 0 1 refl (ap (λ (s : Survey). getD (ownersIn s) 2 0) (d pair pair-start [] .accepted (zeros 5) (zeros 5) refl refl))
+
+pub inventing-ours : Both (getD (ownersIn (surveyed flex)) 2 0) (getD (ledgerOwners (begun pair)) 2 0) 1
+unfolding rules demands paired
+inventing-ours = (refl, refl)
+
+-- `table`: a byte of it after these calls
+abbrev tableByte : Service → List Call → ℕ → ℕ
+tableByte σ cs p = byteAt (run σ pair cs .tab) p
+
+abbrev toldByte : Service → List Call → ℕ → ℕ
+toldByte σ cs p = byteAt (tableOf (told σ pair cs)) p
+
+table-byte : (σ : Service) → Demand3 σ → (cs : List Call) (p : ℕ) → tableByte σ cs p ≡ toldByte σ cs p
+table-byte σ d cs p = ap (λ (m : List ℕ). byteAt m p) (d pair pair-start cs .table)
+
+-- block 3 opens the directory; block 2 waits to read B.DAT
+pub meddling-fails : Demand3 meddling → ⊥
+unfolding rules demands paired
+meddling-fails d = differ 12 1 refl (table-byte meddling d (asking 3 0 ∷ []) 640)
+
+pub meddling-ours : Both (tableByte flex (asking 3 0 ∷ []) 640) (toldByte flex (asking 3 0 ∷ []) 640) 1
+unfolding rules demands paired
+meddling-ours = (refl, refl)
+
+-- block 1 opens B.DAT and reads a byte: its position is 1,4
+pub misplacing-fails : Demand3 misplacing → ⊥
+unfolding rules demands paired
+misplacing-fails d = differ 9 4 refl (table-byte misplacing d (asking 1 0 ∷ asking 1 0 ∷ []) 351)
+
+pub misplacing-ours : Both (tableByte flex (asking 1 0 ∷ asking 1 0 ∷ []) 351) (toldByte flex (asking 1 0 ∷ asking 1 0 ∷ []) 351) 4
+unfolding rules demands paired
+misplacing-ours = (refl, refl)
+
+-- `lists`: block 3 opens the directory and asks for the first slot, which is A.TXT's
+abbrev opens : List Call
+opens = asking 3 0 ∷ setting 3 0 7 ∷ []
+
+pub mislisting-fails : Demand3 mislisting → ⊥
+unfolding rules demands paired
+mislisting-fails d =
+    differ 90 65 refl
+    (ap (λ (m : List ℕ). byteAt m 0)
+    (d pair pair-start opens .lists 3 0 0 (record { block = omega arith; function = refl; drive = refl }) refl (omega arith) .1))
+
+pub mislisting-ours : Both (byteAt (part (next flex (run flex pair opens) (asking 3 0) .tab) 964 24) 0) (byteAt (entryOf (file (told flex pair opens) 0)) 0) 65
+unfolding rules demands paired
+mislisting-ours = (refl, refl)
+
+-- `spared`: B.DAT's slot while block 1 opens it; its sector while block 0 makes C.TXT
+pub deleting-fails : Demand3 deleting → ⊥
+unfolding rules demands paired
+deleting-fails d = differ 255 66 refl (ap (λ (m : List ℕ). byteAt m 0) (d pair pair-start (asking 1 0 ∷ []) .spared 2 (omega arith) refl (refl, refl, tt) .0))
+
+pub deleting-ours : Both (byteAt (part (run flex pair (asking 1 0 ∷ []) .img) 1088 24) 0) (byteAt (part (pair .img) 1088 24) 0) 66
+unfolding rules demands paired
+deleting-ours = (refl, refl)
+
+abbrev recordByte : List (List ℕ) → ℕ
+recordByte m = byteAt (getD m 0 []) 3
+
+pub scrambling-fails : Demand3 scrambling → ⊥
+unfolding rules demands paired
+scrambling-fails d = differ 7 1 refl (ap recordByte (d pair pair-start (asking 0 0 ∷ []) .spared 2 (omega arith) refl (refl, refl, tt) .2))
+
+pub scrambling-ours : Both (recordByte (wholly (run flex pair (asking 0 0 ∷ []) .img) (8 ∷ []))) (recordByte (wholly (pair .img) (8 ∷ []))) 1
+unfolding rules demands paired
+scrambling-ours = (refl, refl)
+
+-- `entries`: C.TXT is made, of the date 1, 2, 80, and D.TXT, of 3, 4, 81, which gets a byte
+abbrev dated : List Call
+dated = asking 0 0 ∷ asking 5 0 ∷ asking 5 8 ∷ []
+
+pub swapping-fails : Demand3 swapping → ⊥
+unfolding rules demands paired
+swapping-fails d = differ 3 1 refl (ap (λ (m : List ℕ). byteAt m 21) (d pair pair-start dated .entries 1 (omega arith)))
+
+pub swapping-ours : Both (byteAt (part (run flex pair dated .img) 1064 24) 21) (byteAt (entryOf (file (told flex pair dated) 1)) 21) 1
+unfolding rules demands paired
+swapping-ours = (refl, refl)
+
+-- `stays`: C.TXT gets a byte
+pub booting-fails : Demand3 booting → ⊥
+unfolding rules demands paired
+booting-fails d = differ 99 1 refl (d pair pair-start (asking 0 0 ∷ asking 0 7 ∷ []) .stays 0 (omega arith) refl refl)
+
+pub booting-ours : Both (byteAt (run flex pair (asking 0 0 ∷ asking 0 7 ∷ []) .img) 0) (byteAt (pair .img) 0) 1
+unfolding rules demands paired
+booting-ours = (refl, refl)

@@ -1,0 +1,199 @@
+-- The demands are not empty: a run of 29 calls and 16 presets on the start with two files, its answers, and what each clause of `Sound` finds there.
+use mathlib.Core.Path.{_≡_, refl, ap, _∙_}
+use mathlib.Core.Bool.{Bool, true, false}
+use mathlib.Core.List.{List, [], _∷_, _++_}
+use Prim.Native.Nat.{ℕ, zero, suc, _+_, _*_, _<_}
+use native.Mathlib.Omega.{arith}
+use lib.ListN.{length, getD}
+use Rattle.rules.specs.Bytes.{pick, byteAt, part, within}
+use Rattle.rules.specs.Directory.{live, slots, member}
+use Rattle.rules.specs.Image.{isSector}
+use Rattle.rules.specs.Block.{idle}
+use Rattle.rules.specs.All.{rules}
+use Rattle.laws.specs.Tests.{never}
+use Rattle.demands.specs.Ledger.{Call, setting, extending, asking, Ledger, Block, closed, listing, reading, writing, file, block, asks, activity, entryOf}
+use Rattle.demands.specs.Service.{flex, Machine, Entry, answers, gave, next, run, log}
+use Rattle.demands.specs.History.{Scene, history, scenes, hits, Unnamed, ahead}
+use Rattle.demands.specs.Demands.{lastOf, perOf, begun, told, past, Asks, Idle, inSlot, placeIn, Sound}
+use Rattle.refuted.specs.All.{demands}
+use Rattle.refuted.specs.Pair.{pair, paired}
+
+-- block 0 makes C.TXT and sends two bytes, 5 makes D.TXT and sends one, which takes the last free sector; 7 would delete A.TXT, which is
+-- protected, then makes F.TXT, and gets no sector for its byte; 6 would read C.TXT while it is written; 0 would change its name; 5 closes
+unfoldable pub written : List Call
+written =
+    asking 0 0 ∷ asking 0 70 ∷ asking 0 71 ∷ asking 5 0 ∷ asking 5 80 ∷ asking 7 0 ∷ setting 7 4 70 ∷ setting 7 0 2 ∷ asking 7 0 ∷ asking 7 90 ∷ asking 6 0
+    ∷ setting 0 4 71 ∷ setting 5 0 4 ∷ asking 5 0 ∷ []
+
+-- block 2 renames B.DAT to E.DAT, again (it exists), deletes it, again (no legal name); 1 would read B.DAT; 5 deletes D.TXT
+unfoldable pub removed : List Call
+removed =
+    setting 2 0 13 ∷ asking 2 0 ∷ asking 2 0 ∷ setting 2 0 12 ∷ asking 2 0 ∷ asking 2 0 ∷ asking 1 0 ∷ setting 5 0 12 ∷ asking 5 0 ∷ []
+
+-- block 1 opens A.TXT, reads two bytes, rewinds, reads one; 3 lists two slots; 4 fetches a sector; 6 would close, asks for
+-- function 99, for drive 1; 9 is no block
+unfoldable pub looked : List Call
+looked =
+    setting 1 4 65 ∷ setting 1 12 0 ∷ extending 1 1 ∷ asking 1 0 ∷ asking 1 0 ∷ asking 1 0 ∷ setting 1 0 5 ∷ asking 1 0 ∷ asking 1 0
+    ∷ asking 3 0 ∷ setting 3 0 7 ∷ asking 3 0 ∷ asking 3 0 ∷ asking 4 0
+    ∷ setting 6 0 4 ∷ asking 6 0 ∷ setting 6 0 99 ∷ asking 6 0 ∷ setting 6 3 1 ∷ setting 6 0 0 ∷ asking 6 0 ∷ asking 9 0 ∷ []
+
+unfoldable pub trial : List Call
+trial = written ++ removed ++ looked
+
+unfoldable pub tried : Unit {0}
+unfolding paired written removed looked trial
+tried = tt
+
+-- answer and byte of each call
+abbrev pub outcomes : List Entry → List (ℕ × ℕ)
+outcomes [] = []
+outcomes (e ∷ es) = (e .ans, e .back) ∷ outcomes es
+
+-- of these calls, in the same lines
+abbrev pub theOutcomes : List (ℕ × ℕ)
+theOutcomes =
+    (0, 0) ∷ (0, 0) ∷ (0, 0) ∷ (0, 0) ∷ (0, 0) ∷ (11, 0) ∷ (0, 0) ∷ (0, 0) ∷ (0, 0) ∷ (7, 0) ∷ (2, 0)
+    ∷ (18, 0) ∷ (0, 0) ∷ (0, 0)
+    ∷ (0, 0) ∷ (0, 0) ∷ (3, 0) ∷ (0, 0) ∷ (0, 0) ∷ (21, 0) ∷ (4, 0) ∷ (0, 0) ∷ (0, 0)
+    ∷ (0, 0) ∷ (0, 0) ∷ (0, 0) ∷ (0, 0) ∷ (0, 10) ∷ (0, 11) ∷ (0, 0) ∷ (0, 0) ∷ (0, 10)
+    ∷ (0, 0) ∷ (0, 0) ∷ (0, 0) ∷ (0, 0) ∷ (0, 0)
+    ∷ (0, 0) ∷ (13, 0) ∷ (0, 0) ∷ (1, 0) ∷ (0, 0) ∷ (0, 0) ∷ (16, 0) ∷ (13, 0) ∷ []
+
+-- ---- what is computed, in one go
+
+-- no call deletes or renames the file of this name
+unhit : List ℕ → List Scene → Bool
+unhit nm [] = true
+unhit nm (c ∷ cs) = pick (hits 12 nm c) false (pick (hits 13 nm c) false (unhit nm cs))
+
+-- of a ledger: the eight blocks; code and drive of 1, 3 and 4; the position of 4, how many slots, the byte that is next for 1
+record Facts : Type 0 where
+  pub blocks : List Block
+  pub codes : List ℕ
+  pub drives : List ℕ
+  pub numbers : List ℕ
+
+abbrev factsOf : Ledger → Facts
+factsOf a = record {
+  blocks = a .blocks;
+  codes = asks a 1 0 .code ∷ asks a 3 0 .code ∷ asks a 4 0 .code ∷ [];
+  drives = asks a 1 0 .drive ∷ asks a 3 0 .drive ∷ asks a 4 0 .drive ∷ [];
+  numbers = asks a 4 0 .position ∷ length (a .slots) ∷ getD (ahead a (block a 1)) 0 0 ∷ [];
+}
+
+abbrev theFacts : Facts
+theFacts = record {
+  blocks = writing 1 (70 ∷ 71 ∷ []) ∷ reading 0 1 5 ∷ closed ∷ listing 2 ∷ closed ∷ closed ∷ closed ∷ writing 4 [] ∷ [];
+  codes = 0 ∷ 7 ∷ 9 ∷ [];
+  drives = 0 ∷ 0 ∷ 0 ∷ [];
+  numbers = 261 ∷ 10 ∷ 11 ∷ [];
+}
+
+-- of a log; nm is the name that is looked for
+record Summary : Type 0 where
+  pub outs : List (ℕ × ℕ)
+  pub facts : Facts
+  pub spares : Bool
+
+summary : List ℕ → List Entry → Summary
+summary nm es = record {
+  outs = outcomes es;
+  facts = factsOf (history (lastOf pair) (perOf pair) (begun pair) es);
+  spares = unhit nm (scenes (lastOf pair) (perOf pair) (begun pair) es);
+}
+
+abbrev aTxt : List ℕ
+aTxt = part (pair .img) (placeIn pair 0) 11
+
+computed : summary aTxt (log flex pair trial) ≡ record { outs = theOutcomes; facts = theFacts; spares = true }
+unfolding rules demands tried unhit summary
+computed = refl
+
+-- ---- ITS ANSWERS
+
+pub trial-answers : outcomes (log flex pair trial) ≡ theOutcomes
+unfolding summary
+trial-answers = ap (λ (s : Summary). s .outs) computed
+
+-- ---- WHAT STANDS AT ITS END: every clause of `Sound` that asks for something finds it
+
+-- block 1 reads A.TXT, of which byte 11 is next; 3 lists, two slots shown; 4 asks for a sector; 0 has an unfinished one
+pub record Busy (a : Ledger) : Type 0 where
+  pub reads : Asks a 1 0 × (activity (block a 1) ≡ 1) × (getD (ahead a (block a 1)) 0 0 ≡ 11)
+  pub lists : Asks a 3 7 × (block a 3 ≡ listing 2) × (2 < length (a .slots))
+  pub fetches : Asks a 4 9 × Idle a 4 × (asks a 4 0 .position ≡ 261)
+  pub writes : block a 0 ≡ writing 1 (70 ∷ 71 ∷ [])
+
+busy : (a : Ledger) → factsOf a ≡ theFacts → Busy a
+unfolding rules
+busy a e =
+    let codes : (i : ℕ) → getD (factsOf a .codes) i 0 ≡ getD (theFacts .codes) i 0 = λ i. ap (λ (f : Facts). getD (f .codes) i 0) e in
+    let drives : (i : ℕ) → getD (factsOf a .drives) i 0 ≡ getD (theFacts .drives) i 0 = λ i. ap (λ (f : Facts). getD (f .drives) i 0) e in
+    let numbers : (i : ℕ) → getD (factsOf a .numbers) i 0 ≡ getD (theFacts .numbers) i 0 = λ i. ap (λ (f : Facts). getD (f .numbers) i 0) e in
+    let blocks : (i : ℕ) → block a i ≡ getD (theFacts .blocks) i closed = λ i. ap (λ (f : Facts). getD (f .blocks) i closed) e in
+    record {
+      reads = (record { block = omega arith; function = codes 0; drive = drives 0 }, ap activity (blocks 1), numbers 2);
+      lists = (record { block = omega arith; function = codes 1; drive = drives 1 }, blocks 3, rw (numbers 1) (omega arith));
+      fetches = (record { block = omega arith; function = codes 2; drive = drives 2 }, ap (λ (b : Block). idle (activity b)) (blocks 4), numbers 0);
+      writes = blocks 0;
+    }
+
+pub trial-busy : Busy (told flex pair trial)
+unfolding summary
+trial-busy = busy (told flex pair trial) (ap (λ (s : Summary). s .facts) computed)
+
+-- A.TXT is spared: live at the start, and no call names it
+unnamed : (nm : List ℕ) (cs : List Scene) → unhit nm cs ≡ true → Unnamed nm cs
+unfolding unhit
+unnamed nm [] h = tt
+unnamed nm (c ∷ cs) h =
+    let p = not-hit (hits 12 nm c) (pick (hits 13 nm c) false (unhit nm cs)) h in
+    let q = not-hit (hits 13 nm c) (unhit nm cs) (p .1) in
+    (p .0, q .0, unnamed nm cs (q .1))
+  where
+    not-hit : (b c : Bool) → pick b false c ≡ true → (b ≡ false) × (c ≡ true)
+    not-hit true c h = absurd (never h)
+    not-hit false c h = (refl, h)
+
+pub trial-unnamed : Unnamed aTxt (past flex pair trial)
+unfolding summary
+trial-unnamed = unnamed aTxt (past flex pair trial) (ap (λ (s : Summary). s .spares) computed)
+
+pub trial-live : (0 < length (slots (pair .img) (perOf pair))) × (live (pair .img) (placeIn pair 0) ≡ true)
+unfolding rules demands paired
+trial-live = (omega arith, refl)
+
+-- byte 0 of the boot sector is named by nobody; 1,5 is a sector
+quiet-there : (0 < 256 * perOf pair) × (inSlot 0 (slots (pair .img) (perOf pair)) ≡ false) × (isSector (lastOf pair) (perOf pair) 261 ≡ true)
+unfolding rules demands paired
+quiet-there = (omega arith, refl, refl)
+
+-- of the free sectors 6 and 9 the second call takes 6, and 9 stays free
+pub trial-rests : (member 9 (told flex pair (asking 0 0 ∷ []) .free) ≡ true) × (member 9 (told flex pair (asking 0 0 ∷ asking 0 70 ∷ []) .free) ≡ true)
+unfolding rules demands paired
+trial-rests = (refl, refl)
+
+-- so the clauses say this of the end, and of the second call
+abbrev pub end : Machine
+end = run flex pair trial
+
+pub clauses : Sound flex pair trial
+    → (gave flex end (asking 1 0) ≡ 11)
+    × (part (next flex end (asking 3 0) .tab) 964 24 ≡ entryOf (file (told flex pair trial) 2))
+    × (answers flex end (asking 4 0) ≡ 0)
+    × (byteAt (end .img) 0 ≡ byteAt (pair .img) 0)
+    × (part (end .img) (placeIn pair 0) 24 ≡ part (pair .img) (placeIn pair 0) 24)
+unfolding within
+clauses s =
+    let b = trial-busy in (
+      s .readers 1 0 (b .reads .0) (b .reads .1) .1 ∙ b .reads .2,
+      s .lists 3 0 2 (b .lists .0) (b .lists .1) (b .lists .2) .1,
+      s .fetches 4 0 (b .fetches .0) (b .fetches .1) (ap (isSector (lastOf pair) (perOf pair)) (b .fetches .2) ∙ quiet-there .2) .0,
+      s .stays 0 (quiet-there .0) refl (quiet-there .1),
+      s .spared 0 (trial-live .0) (trial-live .1) trial-unnamed .0,
+    )
+
+pub clauses-early : Sound flex pair (asking 0 0 ∷ [])
+    → part (run flex pair (asking 0 0 ∷ asking 0 70 ∷ []) .img) 2306 254 ≡ part (run flex pair (asking 0 0 ∷ []) .img) 2306 254
+clauses-early s = s .rests (asking 0 70) 9 (trial-rests .0) (trial-rests .1)
