@@ -76,7 +76,7 @@ looped = over pairImage 1024 (0 ∷ 5 ∷ [])
 
 pub softening-fails : Demand1 softening → ⊥
 unfolding rules paired
-softening-fails d = differ 4 5 refl (d .exact looped (pair .tab) 1 0)
+softening-fails d = differ 4 5 refl (d .exact looped (pair .tab) 1 0 .0)
 
 pub softening-ours : ansOf (flex .call looped (pair .tab) 1 0) ≡ 5
 unfolding rules paired

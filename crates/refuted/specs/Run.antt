@@ -14,9 +14,10 @@ use Rattle.laws.specs.Tests.{never}
 use Rattle.demands.specs.Ledger.{Call, setting, extending, asking, Ledger, Block, closed, listing, reading, writing, file, block, asks, activity, entryOf}
 use Rattle.demands.specs.Service.{flex, Machine, Entry, answers, gave, next, run, log}
 use Rattle.demands.specs.History.{Scene, history, scenes, hits, Unnamed, ahead}
-use Rattle.demands.specs.Demands.{lastOf, perOf, begun, told, past, Asks, Idle, inSlot, placeIn, Sound}
+use Rattle.demands.specs.Demands.{lastOf, perOf, begun, told, past, Asks, Idle, inSlot, placeIn}
+use Rattle.met.specs.Third.{demand3}
 use Rattle.refuted.specs.All.{demands}
-use Rattle.refuted.specs.Pair.{pair, paired}
+use Rattle.refuted.specs.Pair.{pair, pair-start, paired}
 
 -- block 0 makes C.TXT and sends two bytes, 5 makes D.TXT and sends one, which takes the last free sector; 7 would delete A.TXT, which is
 -- protected, then makes F.TXT, and gets no sector for its byte; 6 would read C.TXT while it is written; 0 would change its name; 5 closes
@@ -174,18 +175,18 @@ pub trial-rests : (member 9 (told flex pair (asking 0 0 ∷ []) .free) ≡ true)
 unfolding rules demands paired
 trial-rests = (refl, refl)
 
--- so the clauses say this of the end, and of the second call
+-- so the clauses, which ours meets, say this of the end, and of the second call
 abbrev pub end : Machine
 end = run flex pair trial
 
-pub clauses : Sound flex pair trial
-    → (gave flex end (asking 1 0) ≡ 11)
+pub clauses : (gave flex end (asking 1 0) ≡ 11)
     × (part (next flex end (asking 3 0) .tab) 964 24 ≡ entryOf (file (told flex pair trial) 2))
     × (answers flex end (asking 4 0) ≡ 0)
     × (byteAt (end .img) 0 ≡ byteAt (pair .img) 0)
     × (part (end .img) (placeIn pair 0) 24 ≡ part (pair .img) (placeIn pair 0) 24)
 unfolding within
-clauses s =
+clauses =
+    let s = demand3 pair pair-start trial in
     let b = trial-busy in (
       s .readers 1 0 (b .reads .0) (b .reads .1) .1 ∙ b .reads .2,
       s .lists 3 0 2 (b .lists .0) (b .lists .1) (b .lists .2) .1,
@@ -194,6 +195,5 @@ clauses s =
       s .spared 0 (trial-live .0) (trial-live .1) trial-unnamed .0,
     )
 
-pub clauses-early : Sound flex pair (asking 0 0 ∷ [])
-    → part (run flex pair (asking 0 0 ∷ asking 0 70 ∷ []) .img) 2306 254 ≡ part (run flex pair (asking 0 0 ∷ []) .img) 2306 254
-clauses-early s = s .rests (asking 0 70) 9 (trial-rests .0) (trial-rests .1)
+pub clauses-early : part (run flex pair (asking 0 0 ∷ asking 0 70 ∷ []) .img) 2306 254 ≡ part (run flex pair (asking 0 0 ∷ []) .img) 2306 254
+clauses-early = demand3 pair pair-start (asking 0 0 ∷ []) .rests (asking 0 70) 9 (trial-rests .0) (trial-rests .1)

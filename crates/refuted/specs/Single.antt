@@ -38,6 +38,7 @@ module _ (σ τ : Service) (d : Demand3 σ) (e : Demand3 τ) (x : Machine) (st :
 pub one-refusal : (σ τ : Service) → Demand1 σ → Demand1 τ → (img tab : List ℕ) (n b : ℕ) → Lent tab n → answer (call img tab n b) ≢ 0
     → σ .call img tab n b ≡ τ .call img tab n b
 one-refusal σ τ d e img tab n b l h =
-    d .refused img tab n b l (λ q. h (sym (d .exact img tab n b) ∙ q))
-    ∙ ap (λ (a : ℕ). out a 0 img (over tab (320 * n + 1) (one a))) (d .exact img tab n b ∙ sym (e .exact img tab n b))
-    ∙ sym (e .refused img tab n b l (λ q. h (sym (e .exact img tab n b) ∙ q)))
+    let u = d .exact img tab n b .0 in
+    let v = e .exact img tab n b .0 in
+    d .refused img tab n b l (λ q. h (sym u ∙ q)) ∙ ap (λ (a : ℕ). out a 0 img (over tab (320 * n + 1) (one a))) (u ∙ sym v)
+    ∙ sym (e .refused img tab n b l (λ q. h (sym v ∙ q)))
