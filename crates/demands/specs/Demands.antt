@@ -9,9 +9,12 @@ use lib.ListN.{length, getD}
 use Rattle.rules.specs.Bytes.{pick, within, byteAt, part, over, one, two, zeros}
 use Rattle.rules.specs.Image.{lastTrack, perTrack, index, isSector, firstFree, lastFree}
 use Rattle.rules.specs.Names.{legal}
-use Rattle.rules.specs.Directory.{live, slots, sizeAt, member}
+use Rattle.rules.specs.Directory.{live, slots, sizeAt, member, find, vacancy}
 use Rattle.rules.specs.Outcome.{done, answer, given, settled, out}
-use Rattle.rules.specs.Block.{functionIn, activityIn, positionIn, idle}
+use Rattle.rules.specs.Block.{functionIn, activityIn, nameIn, positionIn, idle}
+use Rattle.rules.specs.Transfer.{slotIn}
+use Rattle.rules.specs.declared.Lookup.{Lookup}
+use Rattle.rules.specs.declared.Lookup.the-variants.{At, Missing, Broken}
 use Rattle.rules.specs.Call.{checked, call}
 use Rattle.rules.specs.Census.{Survey, survey, census, tally}
 use Rattle.laws.specs.Small.{Small}
@@ -51,15 +54,37 @@ names code act i =
 unfoldable pub looks : ℕ → ℕ → Bool
 looks code act = pick (eqb code 0) (eqb act 1) (pick (eqb code 4) (pick (eqb act 2) false true) (member code (1 ∷ 5 ∷ 6 ∷ 7 ∷ 9 ∷ [])))
 
--- byte p of track 0 that no call names: outside the information record's 29-34, in the first four sectors, or in front of a sector's slots
-unfoldable pub quiet : ℕ → ℕ → Bool
-quiet S p = pick (ltb p (256 * S)) (pick (within 541 546 p) false (pick (ltb p 1024) true (ltb (p % 256) 16))) false
+-- the slot that a call of this code names, of the block that begins at f: its place's (0, 4), the one for a new file (2), its name's (12, 13)
+abbrev pub slotNamed : List ℕ → List ℕ → ℕ → ℕ → Lookup
+slotNamed img tab f code =
+    pick (eqb code 0) (slotIn img tab (perTrack img) f)
+    (pick (eqb code 4) (slotIn img tab (perTrack img) f)
+    (pick (eqb code 2) (vacancy img (perTrack img))
+    (find img (perTrack img) (nameIn tab f))))
 
--- byte p of a data sector that no call of the block that begins at f names: not of first free, last free or the block's position
-unfoldable pub aside : List ℕ → List ℕ → ℕ → ℕ → Bool
-aside img tab f p =
-    pick (ltb p (256 * perTrack img)) false
-    (pick (member (p / 256) (index (perTrack img) (firstFree img) ∷ index (perTrack img) (lastFree img) ∷ index (perTrack img) (positionIn tab f) ∷ [])) false true)
+-- the data sectors: first free and the position (0), the position (4), last free (12)
+abbrev pub sectorsNamed : List ℕ → List ℕ → ℕ → ℕ → List ℕ
+sectorsNamed img tab f code =
+    pick (eqb code 0) (index (perTrack img) (firstFree img) ∷ index (perTrack img) (positionIn tab f) ∷ [])
+    (pick (eqb code 4) (index (perTrack img) (positionIn tab f) ∷ [])
+    (pick (eqb code 12) (index (perTrack img) (lastFree img) ∷ [])
+    []))
+
+-- byte p lies in its 24 bytes
+abbrev pub inNamed : Lookup → ℕ → Bool
+inNamed (At o) p = within o (o + 23) p
+inNamed Missing p = false
+inNamed Broken p = false
+
+-- first free, last free and count move when a sector is taken (0) or a file is deleted (12)
+abbrev pub movesFree : ℕ → Bool
+movesFree code = pick (eqb code 0) true (eqb code 12)
+
+-- an accepted call names byte p of the image: on track 0 the information record's 29-34 and the slot, elsewhere the data sectors
+unfoldable pub named : List ℕ → List ℕ → ℕ → ℕ → ℕ → Bool
+named img tab f code p =
+    pick (ltb p (256 * perTrack img)) (pick (within 541 546 p) (movesFree code) (inNamed (slotNamed img tab f code) p))
+    (member (p / 256) (sectorsNamed img tab f code))
 
 pub record Demand1 (σ : Service) : Type 0 where
   -- these four have no past: what 01 says of them is an equation
@@ -84,10 +109,10 @@ pub record Demand1 (σ : Service) : Type 0 where
   pub others : (img tab : List ℕ) (n b p : ℕ) → Small tab → (320 * n ≤ p → p < 320 * n + 320 → ⊥) → byteAt (tabOf (σ .call img tab n b)) p ≡ byteAt tab p
   pub unnamed : (img tab : List ℕ) (n b i : ℕ) → Small tab → i < 320 → i ≢ 1 → names (functionIn tab (320 * n)) (activityIn tab (320 * n)) i ≡ false
       → byteAt (tabOf (σ .call img tab n b)) (320 * n + i) ≡ byteAt tab (320 * n + i)
-  -- of the image, what only looks changes nothing, and nothing changes what is quiet or aside
-  pub looking : (img tab : List ℕ) (n b : ℕ) → looks (functionIn tab (320 * n)) (activityIn tab (320 * n)) ≡ true → imgOf (σ .call img tab n b) ≡ img
-  pub quietly : (img tab : List ℕ) (n b p : ℕ) → quiet (perTrack img) p ≡ true → byteAt (imgOf (σ .call img tab n b)) p ≡ byteAt img p
-  pub elsewhere : (img tab : List ℕ) (n b p : ℕ) → aside img tab (320 * n) p ≡ true → byteAt (imgOf (σ .call img tab n b)) p ≡ byteAt img p
+  -- what only looks leaves the image, and does in every byte of the block what 01 says; the rest changes nothing of the image that it does not name
+  pub looking : (img tab : List ℕ) (n b : ℕ) → looks (functionIn tab (320 * n)) (activityIn tab (320 * n)) ≡ true
+      → (imgOf (σ .call img tab n b) ≡ img) × (σ .call img tab n b ≡ flex .call img tab n b)
+  pub elsewhere : (img tab : List ℕ) (n b p : ℕ) → named img tab (320 * n) (functionIn tab (320 * n)) p ≡ false → byteAt (imgOf (σ .call img tab n b)) p ≡ byteAt img p
 
 -- ---- the start, for demands 2 and 3
 

@@ -1,5 +1,5 @@
 -- Where a call may store, in the image and in its block; and that the bytes elsewhere stay.
-use mathlib.Core.Path.{_≡_, refl, sym, _∙_}
+use mathlib.Core.Path.{_≡_, refl, sym, ap, _∙_}
 use mathlib.Core.Logic.{_≢_}
 use mathlib.Core.Bool.{Bool, true, false}
 use mathlib.Core.List.{List, [], _∷_}
@@ -7,11 +7,13 @@ use Prim.Native.Nat.{ℕ, zero, suc, _+_, _-_, _*_, _/_, _%_, _≤_, _<_}
 use native.Mathlib.Omega.{arith}
 use native.Mathlib.Decide.{ℕ-discrete, decLt}
 use lib.ListN.{length}
-use lib.Dec.{eqb, ltb}
-use borrow.Author.Tests.{ltb-true, lt-ltb, le-ltb}
+use lib.Dec.{eqb, leb, ltb}
+use borrow.Author.Tests.{ltb-true, lt-ltb, le-ltb, lt-leb}
 use Rattle.rules.specs.Bytes.{pick, within, byteAt, one}
 use Rattle.rules.specs.Stores.{Store, store, stored, Put, put, puts}
-use Rattle.rules.specs.Image.{perTrack, index, firstFree, lastFree}
+use Rattle.rules.specs.Image.{perTrack}
+use Rattle.rules.specs.declared.Lookup.{Lookup}
+use Rattle.rules.specs.declared.Lookup.the-variants.{At}
 use Rattle.rules.specs.Directory.{member}
 use Rattle.rules.specs.Outcome.{Outcome, refuse, done, andThen, given, onImage, onBlock, settled}
 use Rattle.rules.specs.Block.{positionIn}
@@ -19,7 +21,7 @@ use Rattle.laws.specs.Tests.{never, both, within-true}
 use Rattle.laws.specs.Each.{Each, each-append}
 use Rattle.laws.specs.Small.{Small}
 use Rattle.laws.specs.Stores.{Piece, piece, Off, inImage, inBlock, stored-off, puts-off}
-use Rattle.demands.specs.Demands.{names, looks, quiet, aside}
+use Rattle.demands.specs.Demands.{names, looks, slotNamed, sectorsNamed, inNamed, movesFree, named}
 
 -- ---- in the block
 
@@ -77,72 +79,58 @@ untouched code act ps tab f at h t = puts-off ps tab f at (off-block code act f 
 
 -- ---- in the image
 
--- a store into the information record's 29-34, into a sector of the directory behind its first 16 bytes, or into one of the data sectors ks
-pub data Lies (S : ℕ) (ks : List ℕ) : Store → Type 0 where
-  in-record : (vs : List ℕ) → 2 < S → length vs ≡ 6 → Lies S ks (store 2 29 vs)
-  in-slots : (k i : ℕ) (vs : List ℕ) → 4 ≤ k → k < S → 16 ≤ i → i + length vs ≤ 256 → Lies S ks (store k i vs)
-  in-sector : (k i : ℕ) (vs : List ℕ) → S ≤ k → member k ks ≡ true → i + length vs ≤ 256 → Lies S ks (store k i vs)
+within-false : (lo hi p : ℕ) → hi < p → within lo hi p ≡ false
+unfolding within
+within-false lo hi p h = go (leb lo p)
+  where
+    go : (u : Bool) → pick u (leb p hi) false ≡ false
+    go false = refl
+    go true = lt-leb p hi h
+
+-- a store into the information record's 29-34, if they move, into the slot l, or into one of the data sectors ks
+pub data Lies (S : ℕ) (moves : Bool) (ks : List ℕ) (l : Lookup) : Store → Type 0 where
+  in-record : (vs : List ℕ) → 2 < S → moves ≡ true → length vs ≡ 6 → Lies S moves ks l (store 2 29 vs)
+  in-slot : (o k i : ℕ) (vs : List ℕ) → l ≡ At o → o + 24 ≤ 256 * S → 547 ≤ o → o ≤ 256 * k + i → 256 * k + i + length vs ≤ o + 24 → Lies S moves ks l (store k i vs)
+  in-sector : (k i : ℕ) (vs : List ℕ) → S ≤ k → member k ks ≡ true → i + length vs ≤ 256 → Lies S moves ks l (store k i vs)
+
+-- as a call of this code may store
+abbrev pub Stored : List ℕ → List ℕ → ℕ → ℕ → Store → Type 0
+Stored img tab f code t = Lies (perTrack img) (movesFree code) (sectorsNamed img tab f code) (slotNamed img tab f code) t
 
 abbrev pieceOf : Store → Piece
 pieceOf (store k i vs) = piece (256 * k + i) vs
 
-all-off : (S : ℕ) (ks : List ℕ) (p : ℕ) → ((t : Store) → Lies S ks t → Off p (pieceOf t)) → (ss : List Store) → Each (Lies S ks) ss → Each (Off p) (inImage ss)
-all-off S ks p g [] a = tt
-all-off S ks p g (store k i vs ∷ ss) a = (g (store k i vs) (a .0), all-off S ks p g ss (a .1))
+module _ (img tab : List ℕ) (f code p : ℕ) (h : named img tab f code p ≡ false) where
+  abbrev S : ℕ
+  S = perTrack img
 
--- what `quiet` says
-record Quiet (S p : ℕ) : Type 0 where
-  pub low : p < 256 * S
-  pub beside : within 541 546 p ≡ false
-  pub front : 1024 ≤ p → p % 256 < 16
+  -- what it is that p is not named
+  low : p < 256 * S → pick (within 541 546 p) (movesFree code) (inNamed (slotNamed img tab f code) p) ≡ false
+  unfolding named
+  low l = rw (lt-ltb p (256 * S) l) at h
 
-quiet-is : (S p : ℕ) → quiet S p ≡ true → Quiet S p
-unfolding quiet
-quiet-is S p h = go (both (ltb p (256 * S)) _ h .0) (within 541 546 p) refl (both (ltb p (256 * S)) _ h .1)
-  where
-    front : pick (ltb p 1024) true (ltb (p % 256) 16) ≡ true → 1024 ≤ p → p % 256 < 16
-    front k l = ltb-true (p % 256) 16 (rw (le-ltb p 1024 l) at k)
+  not-in-record : p < 256 * S → within 541 546 p ≡ true → movesFree code ≡ false
+  not-in-record l w = rw w at (low l)
 
-    go : ltb p (256 * S) ≡ true → (w : Bool) → within 541 546 p ≡ w → pick w false (pick (ltb p 1024) true (ltb (p % 256) 16)) ≡ true → Quiet S p
-    go l true e k = absurd (never k)
-    go l false e k = record { low = ltb-true p (256 * S) l; beside = e; front = front k }
+  not-in-slot : p < 256 * S → within 541 546 p ≡ false → inNamed (slotNamed img tab f code) p ≡ false
+  not-in-slot l w = rw w at (low l)
 
-off-quiet : (S : ℕ) (ks : List ℕ) (p : ℕ) → Quiet S p → (t : Store) → Lies S ks t → Off p (pieceOf t)
-off-quiet S ks p q t (in-record vs s l) = λ a b. never (sym (q .beside) ∙ within-true 541 546 p (omega arith) (omega arith))
-off-quiet S ks p q t (in-slots k i vs s u l e) = λ a b. let r : p / 256 ≡ k = omega arith in omega (arith, q .front (omega arith))
-off-quiet S ks p q t (in-sector k i vs s m e) = λ a b. omega arith
+  not-in-sector : 256 * S ≤ p → member (p / 256) (sectorsNamed img tab f code) ≡ false
+  unfolding named
+  not-in-sector l = rw (le-ltb p (256 * S) l) at h
 
--- what `aside` says, of the list of sectors
-abbrev pub sectors : List ℕ → List ℕ → ℕ → List ℕ
-sectors img tab f = index (perTrack img) (firstFree img) ∷ index (perTrack img) (lastFree img) ∷ index (perTrack img) (positionIn tab f) ∷ []
+  off-it : (t : Store) → Stored img tab f code t → Off p (pieceOf t)
+  off-it t (in-record vs s m l) = λ a b. never (sym (not-in-record (omega arith) (within-true 541 546 p (omega arith) (omega arith))) ∙ m)
+  off-it t (in-slot o k i vs e u g v w) =
+      λ a b. never (sym (ap (λ (l : Lookup). inNamed l p) (sym e) ∙ not-in-slot (omega arith) (within-false 541 546 p (omega arith))) ∙ within-true o (o + 23) p (omega arith) (omega arith))
+  off-it t (in-sector k i vs s m e) = λ a b. let r : p / 256 ≡ k = omega arith in never (sym (rw r at (not-in-sector (omega arith))) ∙ m)
 
-record Aside (S : ℕ) (ks : List ℕ) (p : ℕ) : Type 0 where
-  pub high : 256 * S ≤ p
-  pub none : member (p / 256) ks ≡ false
+  all-off : (ss : List Store) → Each (Stored img tab f code) ss → Each (Off p) (inImage ss)
+  all-off [] a = tt
+  all-off (store k i vs ∷ ss) a = (off-it (store k i vs) (a .0), all-off ss (a .1))
 
-aside-is : (img tab : List ℕ) (f p : ℕ) → aside img tab f p ≡ true → Aside (perTrack img) (sectors img tab f) p
-unfolding aside
-aside-is img tab f p = go (decLt p (256 * perTrack img)) (member (p / 256) (sectors img tab f)) refl
-  where
-    go : Dec (p < 256 * perTrack img) → (w : Bool) → member (p / 256) (sectors img tab f) ≡ w → pick (ltb p (256 * perTrack img)) false (pick w false true) ≡ true
-        → Aside (perTrack img) (sectors img tab f) p
-    go (yes l) w e k = absurd (never (rw (lt-ltb p (256 * perTrack img) l) at k))
-    go (no l) true e k = absurd (never (rw (le-ltb p (256 * perTrack img) (omega arith)) at k))
-    go (no l) false e k = record { high = omega arith; none = e }
-
-off-aside : (S : ℕ) (ks : List ℕ) (p : ℕ) → Aside S ks p → (t : Store) → Lies S ks t → Off p (pieceOf t)
-off-aside S ks p q t (in-record vs s l) = λ a b. omega arith
-off-aside S ks p q t (in-slots k i vs s u l e) = λ a b. omega arith
-off-aside S ks p q t (in-sector k i vs s m e) = λ a b. let r : p / 256 ≡ k = omega arith in never (sym (rw r at (q .none)) ∙ m)
-
-module _ (img tab : List ℕ) (f p : ℕ) (ss : List Store) (l : Each (Lies (perTrack img) (sectors img tab f)) ss) where
-  pub quiet-stays : quiet (perTrack img) p ≡ true → byteAt (stored img ss) p ≡ byteAt img p
-  quiet-stays h =
-      stored-off ss img p (all-off (perTrack img) (sectors img tab f) p (off-quiet (perTrack img) (sectors img tab f) p (quiet-is (perTrack img) p h)) ss l)
-
-  pub aside-stays : aside img tab f p ≡ true → byteAt (stored img ss) p ≡ byteAt img p
-  aside-stays h =
-      stored-off ss img p (all-off (perTrack img) (sectors img tab f) p (off-aside (perTrack img) (sectors img tab f) p (aside-is img tab f p h)) ss l)
+  pub unnamed-stays : (ss : List Store) → Each (Stored img tab f code) ss → byteAt (stored img ss) p ≡ byteAt img p
+  unnamed-stays ss a = stored-off ss img p (all-off ss a)
 
 -- ---- outcomes
 
@@ -150,7 +138,7 @@ module _ (img tab : List ℕ) (f p : ℕ) (ss : List Store) (l : Each (Lies (per
 pub record Tame (img tab : List ℕ) (f code act c : ℕ) (ss : List Store) (ps : List Put) : Type 0 where
   pub byte : (code ≡ 0 → act ≢ 1) → c ≡ 0
   pub still : looks code act ≡ true → ss ≡ []
-  pub image : Each (Lies (perTrack img) (sectors img tab f)) ss
+  pub image : Each (Stored img tab f code) ss
   pub block : Small tab → Each (Touched code act) ps
 
 abbrev pub Tamed : List ℕ → List ℕ → ℕ → ℕ → ℕ → Outcome → Type 0
@@ -162,7 +150,7 @@ module _ (img tab : List ℕ) (f code act : ℕ) where
   pub tame-still : (ps : List Put) → lands code act ps ≡ true → Tamed img tab f code act (done 0 [] ps)
   tame-still ps t = record { byte = λ h. refl; still = λ h. refl; image = tt; block = λ s. lands-each code act ps t }
 
-  pub tame-done : (ss : List Store) (ps : List Put) → looks code act ≡ false → Each (Lies (perTrack img) (sectors img tab f)) ss
+  pub tame-done : (ss : List Store) (ps : List Put) → looks code act ≡ false → Each (Stored img tab f code) ss
       → (Small tab → Each (Touched code act) ps) → Tamed img tab f code act (done 0 ss ps)
   tame-done ss ps n l t = record { byte = λ h. refl; still = λ h. absurd (never (sym n ∙ h)); image = l; block = t }
 

@@ -21,7 +21,7 @@ use Rattle.laws.specs.Stores.{length-puts, puts-append}
 use Rattle.laws.specs.Effects.{lengths-kept, onTable-all, call-lawful, call-right, call-wrong, call-refused}
 use Rattle.demands.specs.Service.{flex, leaves}
 use Rattle.demands.specs.Demands.{Lent, due, names, Demand1}
-use Rattle.met.specs.Bounds.{touches, untouched, quiet-stays, aside-stays, Tame, tame-settled}
+use Rattle.met.specs.Bounds.{touches, untouched, unnamed-stays, Tame, tame-settled}
 use Rattle.met.specs.Tames.{asked-tame}
 
 -- ---- what is due before all else
@@ -104,7 +104,6 @@ demand1 = record {
   silent = λ img tab n b h. call-tame img tab n b .byte h;
   others = λ img tab n b p s h. stays img tab n b p s (λ k l. absurd (h k l));
   unnamed = λ img tab n b i s l k h. stays img tab n b (320 * n + i) s (λ u v. not-touched _ _ (320 * n) i k h);
-  looking = λ img tab n b h. ap (stored img) (call-tame img tab n b .still h);
-  quietly = λ img tab n b p h. quiet-stays img tab (320 * n) p (onImage (call img tab n b)) (call-tame img tab n b .image) h;
-  elsewhere = λ img tab n b p h. aside-stays img tab (320 * n) p (onImage (call img tab n b)) (call-tame img tab n b .image) h;
+  looking = λ img tab n b h. (ap (stored img) (call-tame img tab n b .still h), refl);
+  elsewhere = λ img tab n b p h. unnamed-stays img tab (320 * n) (functionIn tab (320 * n)) p h (onImage (call img tab n b)) (call-tame img tab n b .image);
 }

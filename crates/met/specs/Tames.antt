@@ -25,8 +25,9 @@ use Rattle.laws.specs.Addresses.{Shaped, shape-is, data-is, data-low}
 use Rattle.laws.specs.Slots.{IsSlot, find-is, vacancy-is, placed-is}
 use Rattle.laws.specs.Fair.{onSlot-all, onNone-all}
 use Rattle.laws.specs.Facts.{second}
-use Rattle.demands.specs.Demands.{names, looks}
-use Rattle.met.specs.Bounds.{touches, spans, Touched, spans-at, lands, lands-each, Lies, in-record, in-slots, in-sector, sectors, Tamed, tame-still, tame-done, tame-then}
+use Rattle.demands.specs.Demands.{names, looks, slotNamed, sectorsNamed, movesFree}
+use Rattle.rules.specs.declared.Lookup.the-variants.{At}
+use Rattle.met.specs.Bounds.{touches, spans, Touched, spans-at, lands, lands-each, Stored, in-record, in-slot, in-sector, Tamed, tame-still, tame-done, tame-then}
 
 -- of the codes that are served, 13 is the one that is left
 above : (m c : ℕ) → m ≤ c → c ≢ m → m + 1 ≤ c
@@ -58,45 +59,54 @@ module _ (img tab : List ℕ) (f b : ℕ) (z : Shaped img) where
   abbrev T : ℕ → ℕ → Outcome → Type 0
   T code act o = Tamed img tab f code act o
 
-  abbrev L : Store → Type 0
-  L s = Lies (perTrack img) (sectors img tab f) s
+  -- as code c may store
+  abbrev L : ℕ → Store → Type 0
+  L c s = Stored img tab f c s
+
+  abbrev Slot : ℕ → ℕ → Type 0
+  Slot c slot = slotNamed img tab f c ≡ At slot
+
+  abbrev Sector : ℕ → ℕ → Type 0
+  Sector c a = member (index S a) (sectorsNamed img tab f c) ≡ true
 
   -- ---- stores of the image
 
-  info-lies : (x y n : ℕ) → L (store infoSector 29 (six x y n))
-  info-lies x y n = in-record (six x y n) (omega (arith, z .shape)) (length-six x y n)
+  info-lies : (c x y n : ℕ) → movesFree c ≡ true → L c (store infoSector 29 (six x y n))
+  info-lies c x y n m = in-record (six x y n) (omega (arith, z .shape)) m (length-six x y n)
 
-  slot-lies : (slot at n : ℕ) (vs : List ℕ) → IsSlot S slot → length vs ≡ n → slot % 256 ≤ at → at + n ≤ slot % 256 + 24 → L (store (slot / 256) at vs)
-  slot-lies slot at n vs s l h k = in-slots (slot / 256) at vs (s .sector-low) (s .sector-high) (omega (arith, s .low)) (omega (arith, s .high))
+  slot-lies : (c slot at n : ℕ) (vs : List ℕ) → IsSlot S slot → Slot c slot → length vs ≡ n → slot % 256 ≤ at → at + n ≤ slot % 256 + 24
+      → L c (store (slot / 256) at vs)
+  slot-lies c slot at n vs s e l h k = in-slot slot (slot / 256) at vs e (omega (arith, s .sector-high, s .high)) (omega (arith, s .sector-low)) (omega arith) (omega arith)
 
-  data-lies : (a i n : ℕ) (vs : List ℕ) → isData M S a ≡ true → member (index S a) (sectors img tab f) ≡ true → length vs ≡ n → i + n ≤ 256
-      → L (store (index S a) i vs)
-  data-lies a i n vs d m l h = in-sector (index S a) i vs (data-low M S a (data-is M S a d)) m (omega arith)
+  data-lies : (c a i n : ℕ) (vs : List ℕ) → isData M S a ≡ true → Sector c a → length vs ≡ n → i + n ≤ 256 → L c (store (index S a) i vs)
+  data-lies c a i n vs d m l h = in-sector (index S a) i vs (data-low M S a (data-is M S a d)) m (omega arith)
 
-  linked-lies : (none : Bool) (a v : ℕ) → (none ≡ false → isData M S a ≡ true) → member (index S a) (sectors img tab f) ≡ true
-      → Each L (linked none (index S a) v)
+  linked-lies : (c : ℕ) (none : Bool) (a v : ℕ) → (none ≡ false → isData M S a ≡ true) → Sector c a → Each (L c) (linked none (index S a) v)
   unfolding linked
-  linked-lies none a v d m =
-      pick-cases (Each L) none [] _ (λ e. tt) (λ e. (data-lies a 0 2 (two v) (d e) m (length-two v) (omega arith), tt))
+  linked-lies c none a v d m =
+      pick-cases (Each (L c)) none [] _ (λ e. tt) (λ e. (data-lies c a 0 2 (two v) (d e) m (length-two v) (omega arith), tt))
 
-  mark-lies : (slot : ℕ) → IsSlot S slot → Each L (mark slot)
+  mark-lies : (c slot : ℕ) → IsSlot S slot → Slot c slot → Each (L c) (mark slot)
   unfolding mark
-  mark-lies slot s = (slot-lies slot (slot % 256) 1 (one 255) s (length-one 255) (omega arith) (omega arith), tt)
+  mark-lies c slot s e = (slot-lies c slot (slot % 256) 1 (one 255) s e (length-one 255) (omega arith) (omega arith), tt)
 
   -- a new slot's 24 bytes
   entry-long : length (newEntry tab f) ≡ 24
   unfolding newEntry part zeros
   entry-long = refl
 
-  -- the three data sectors
-  first-in : member (index S (firstFree img)) (sectors img tab f) ≡ true
+  -- the data sectors
+  first-in : Sector 0 (firstFree img)
   first-in = member-here (index S (firstFree img)) _
 
-  last-in : member (index S (lastFree img)) (sectors img tab f) ≡ true
-  last-in = member-there _ _ _ (member-here (index S (lastFree img)) _)
+  written-in : Sector 0 (positionIn tab f)
+  written-in = member-there _ _ _ (member-here (index S (positionIn tab f)) _)
 
-  position-in : member (index S (positionIn tab f)) (sectors img tab f) ≡ true
-  position-in = member-there _ _ _ (member-there _ _ _ (member-here (index S (positionIn tab f)) _))
+  closed-in : Sector 4 (positionIn tab f)
+  closed-in = member-here (index S (positionIn tab f)) _
+
+  last-in : Sector 12 (lastFree img)
+  last-in = member-here (index S (lastFree img)) _
 
   -- ---- 0, reading
 
@@ -114,16 +124,16 @@ module _ (img tab : List ℕ) (f b : ℕ) (z : Shaped img) where
 
   -- ---- 0, writing
 
-  take-lies : (slot former new next last left start size : ℕ) → IsSlot S slot → (eqb former 0 ≡ false → isData M S former ≡ true)
-      → isData M S new ≡ true → member (index S former) (sectors img tab f) ≡ true → member (index S new) (sectors img tab f) ≡ true
-      → Each L (takeStores S slot former new next last left start size)
+  take-lies : (slot former new next last left start size : ℕ) → IsSlot S slot → Slot 0 slot → (eqb former 0 ≡ false → isData M S former ≡ true)
+      → isData M S new ≡ true → Sector 0 former → Sector 0 new
+      → Each (L 0) (takeStores S slot former new next last left start size)
   unfolding takeStores
-  take-lies slot former new next last left start size s d e m n = (
-    info-lies next last left,
+  take-lies slot former new next last left start size s at d e m n = (
+    info-lies 0 next last left refl,
     (
-      data-lies new 0 256 (fresh size) e n (length-fresh size) (omega arith),
-      each-append L (linked (eqb former 0) (index S former) new) _ (linked-lies (eqb former 0) former new d m)
-          (slot-lies slot (slot % 256 + 13) 6 _ s (length-six start new size) (omega arith) (omega arith), tt),
+      data-lies 0 new 0 256 (fresh size) e n (length-fresh size) (omega arith),
+      each-append (L 0) (linked (eqb former 0) (index S former) new) _ (linked-lies 0 (eqb former 0) former new d m)
+          (slot-lies 0 slot (slot % 256 + 13) 6 _ s at (length-six start new size) (omega arith) (omega arith), tt),
     ),
   )
 
@@ -140,7 +150,7 @@ module _ (img tab : List ℕ) (f b : ℕ) (z : Shaped img) where
       (pick-cases (T 0 2) (isData M S (firstFree img)) _ _
       (λ n. pick-all (T 0 2) (eqb (sizeIn tab f) 65535) _ _ tt
       (tame-done img tab f 0 2 _ _ refl
-      (take-lies slot _ _ _ _ _ _ _ (placed-is img S _ _ slot e .0 .slot) (second _ _ d) n position-in first-in)
+      (take-lies slot _ _ _ _ _ _ _ (placed-is img S _ _ slot e .0 .slot) e (second _ _ d) n written-in first-in)
       (λ s. take-touched _ _ _)))
       (λ n. tt)))
       (λ d. tt))
@@ -153,8 +163,9 @@ module _ (img tab : List ℕ) (f b : ℕ) (z : Shaped img) where
   )
 
   -- a sector is stored: bytes 4-255 of it
-  buffer-lies : (vs : List ℕ) → isData M S (positionIn tab f) ≡ true → length vs ≡ 252 → Each L (store (index S (positionIn tab f)) 4 vs ∷ [])
-  buffer-lies vs d l = (data-lies (positionIn tab f) 4 252 vs d position-in l (omega arith), tt)
+  buffer-lies : (c : ℕ) → Sector c (positionIn tab f) → (vs : List ℕ) → isData M S (positionIn tab f) ≡ true → length vs ≡ 252
+      → Each (L c) (store (index S (positionIn tab f)) 4 vs ∷ [])
+  buffer-lies c m vs d l = (data-lies c (positionIn tab f) 4 252 vs d m l (omega arith), tt)
 
   writing-tame : T 0 2 (writing img tab M S f b)
   unfolding writing fill looks
@@ -164,7 +175,7 @@ module _ (img tab : List ℕ) (f b : ℕ) (z : Shaped img) where
       (pick-all (T 0 2) (eqb (indexIn tab f) 255) _ _
       (pick-cases (T 0 2) (isData M S (positionIn tab f)) _ _
       (λ d. tame-done img tab f 0 2 _ _ refl
-      (buffer-lies _ d (length-append (part tab (f + (bufferField + 4)) 251) (one b) ∙ omega (arith, length-part tab (f + (bufferField + 4)) 251, length-one b)))
+      (buffer-lies 0 written-in _ d (length-append (part tab (f + (bufferField + 4)) 251) (one b) ∙ omega (arith, length-part tab (f + (bufferField + 4)) 251, length-one b)))
       (λ s. sent-touched 255 (omega arith)))
       (λ d. tt))
       (tame-done img tab f 0 2 [] _ refl tt (λ s. sent-touched (indexIn tab f) (s .at (f + indexField)))))
@@ -179,21 +190,21 @@ module _ (img tab : List ℕ) (f b : ℕ) (z : Shaped img) where
   unfolding closeWriting looks
   close-writing-tame =
       pick-all (T 4 2) (eqb (positionIn tab f) 0) _ _
-      (onSlot-all (T 4 2) (slotIn img tab S f) 5 5 _ tt tt (λ slot e. stored-shut (mark slot) (mark-lies slot (placed-is img S _ _ slot e .0 .slot))))
+      (onSlot-all (T 4 2) (slotIn img tab S f) 5 5 _ tt tt (λ slot e. stored-shut (mark slot) (mark-lies 4 slot (placed-is img S _ _ slot e .0 .slot) e)))
       (pick-all (T 4 2) (eqb (indexIn tab f) 0) _ _ (tame-still img tab f 4 2 shut (shut-lands 2))
-      (pick-cases (T 4 2) (isData M S (positionIn tab f)) _ _ (λ d. stored-shut _ (buffer-lies _ d (length-part tab _ 252))) (λ d. tt)))
+      (pick-cases (T 4 2) (isData M S (positionIn tab f)) _ _ (λ d. stored-shut _ (buffer-lies 4 closed-in _ d (length-part tab _ 252))) (λ d. tt)))
     where
-      stored-shut : (ss : List Store) → Each L ss → T 4 2 (done 0 ss shut)
+      stored-shut : (ss : List Store) → Each (L 4) ss → T 4 2 (done 0 ss shut)
       stored-shut ss l = tame-done img tab f 4 2 ss shut refl l (λ s. lands-each 4 2 shut (shut-lands 2))
 
   -- ---- what is hung on the free chain
 
-  hang-lies : (slot count first start end size : ℕ) → IsSlot S slot → (eqb count 0 ≡ false → isData M S (lastFree img) ≡ true)
-      → Each L (hangStores S slot count first (lastFree img) start end size)
+  hang-lies : (slot count first start end size : ℕ) → IsSlot S slot → Slot 12 slot → (eqb count 0 ≡ false → isData M S (lastFree img) ≡ true)
+      → Each (L 12) (hangStores S slot count first (lastFree img) start end size)
   unfolding hangStores
-  hang-lies slot count first start end size s d =
-      each-append L (linked (eqb count 0) (index S (lastFree img)) start) _ (linked-lies (eqb count 0) (lastFree img) start d last-in)
-      (info-lies _ _ _, mark-lies slot s)
+  hang-lies slot count first start end size s e d =
+      each-append (L 12) (linked (eqb count 0) (index S (lastFree img)) start) _ (linked-lies 12 (eqb count 0) (lastFree img) start d last-in)
+      (info-lies 12 _ _ _ refl, mark-lies 12 slot s e)
 
   -- ---- the functions, by the code that they have in `perform`
 
@@ -235,7 +246,7 @@ module _ (img tab : List ℕ) (f b : ℕ) (z : Shaped img) where
         (onNone-all (T 2 act) (find img S (nameIn tab f)) 5 3 _ tt tt
         (onSlot-all (T 2 act) (vacancy img S) 5 6 _ tt tt
         (λ slot e. tame-done img tab f 2 act _ _ refl
-        (slot-lies slot (slot % 256) 24 (newEntry tab f) (vacancy-is img S slot e .0 .slot) entry-long (omega arith) (omega arith), tt)
+        (slot-lies 2 slot (slot % 256) 24 (newEntry tab f) (vacancy-is img S slot e .0 .slot) e entry-long (omega arith) (omega arith), tt)
         (λ s. lands-each 2 act (opened 2 slot (newEntry tab f)) (new-lands slot)))))
         tt
 
@@ -267,19 +278,19 @@ module _ (img tab : List ℕ) (f b : ℕ) (z : Shaped img) where
     unfolding gone lands spans touches names within part one
     gone-lands slot = refl
 
-    removed-tame : (ss : List Store) (slot : ℕ) → Each L ss → T 12 act (done 0 ss (gone img slot))
+    removed-tame : (ss : List Store) (slot : ℕ) → Each (L 12) ss → T 12 act (done 0 ss (gone img slot))
     unfolding looks member
     removed-tame ss slot l = tame-done img tab f 12 act ss (gone img slot) refl l (λ s. lands-each 12 act (gone img slot) (gone-lands slot))
 
-    remove-tame : (slot : ℕ) → IsSlot S slot → T 12 act (remove img M S slot)
+    remove-tame : (slot : ℕ) → IsSlot S slot → Slot 12 slot → T 12 act (remove img M S slot)
     unfolding remove
-    remove-tame slot s =
-        pick-all (T 12 act) (eqb (sizeAt img slot) 0) _ _ (removed-tame _ slot (mark-lies slot s))
+    remove-tame slot s e =
+        pick-all (T 12 act) (eqb (sizeAt img slot) 0) _ _ (removed-tame _ slot (mark-lies 12 slot s e))
         (pick-all (T 12 act) (isData M S (startAt img slot)) _ _
         (pick-all (T 12 act) (isData M S (endAt img slot)) _ _
         (pick-cases (T 12 act) (pick (eqb (freeCount img) 0) true (isData M S (lastFree img))) _ _
         (λ d. pick-all (T 12 act) (ltb 65535 (freeCount img + sizeAt img slot)) _ _ tt
-        (removed-tame _ slot (hang-lies slot _ _ _ _ _ s (second _ _ d))))
+        (removed-tame _ slot (hang-lies slot _ _ _ _ _ s e (second _ _ d))))
         (λ d. tt))
         tt)
         tt)
@@ -292,7 +303,7 @@ module _ (img tab : List ℕ) (f b : ℕ) (z : Shaped img) where
         (λ slot e. pick-all (T 12 act) (inUse true tab (placeOf slot)) _ _ tt
         (pick-all (T 12 act) (deleteProtected (attributesAt img slot)) _ _ tt
         (pick-all (T 12 act) (writeProtected (attributesAt img slot)) _ _ tt
-        (remove-tame slot (find-is img S _ slot e .0 .slot))))))
+        (remove-tame slot (find-is img S _ slot e .0 .slot) e)))))
         tt
 
     renamed-lands : lands 13 act (put nameField (newNameIn tab f) ∷ []) ≡ true
@@ -309,7 +320,7 @@ module _ (img tab : List ℕ) (f b : ℕ) (z : Shaped img) where
         (pick-all (T 13 act) (writeProtected (attributesAt img slot)) _ _ tt
         (onNone-all (T 13 act) (find img S (newNameIn tab f)) 5 3 _ tt tt
         (tame-done img tab f 13 act _ _ refl
-        (slot-lies slot (slot % 256) 11 _ (find-is img S _ slot e .0 .slot) (length-part tab _ 11) (omega arith) (omega arith), tt)
+        (slot-lies 13 slot (slot % 256) 11 _ (find-is img S _ slot e .0 .slot) e (length-part tab _ 11) (omega arith) (omega arith), tt)
         (λ s. lands-each 13 act (put nameField (newNameIn tab f) ∷ []) renamed-lands))))))
         tt)
         tt
