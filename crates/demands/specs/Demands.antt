@@ -189,8 +189,10 @@ module _ (σ : Service) (M S : ℕ) where
     pub reads : (cs : List Call) → Only m (0 ∷ 5 ∷ []) (since (next σ x (asking m b)) (ledgerAfter x a (asking m b)) cs)
         → Reads m 0 bytes (since (next σ x (asking m b)) (ledgerAfter x a (asking m b)) cs)
 
-  -- whatever is called, short of deleting the file, it is read back under its name of then
-  pub record Kept (x : Machine) (a : Ledger) (nm sent : List ℕ) : Type 0 where
+  -- whatever is called, short of deleting the file in slot s, its sectors have the record numbers 1, 2, 3, .. and it is read back under its name of then
+  pub record Kept (x : Machine) (a : Ledger) (s : ℕ) (nm sent : List ℕ) : Type 0 where
+    pub numbers : (cs : List Call) → Survives nm (since x a cs)
+        → pieces 2 2 (run σ x cs .img) (file (toldSince x a cs) s .secs) ≡ counted 1 ((length sent + 251) / 252)
     pub back : (cs : List Call) → Survives nm (since x a cs) → (m b : ℕ) → Asks (toldSince x a cs) m 1 → Idle (toldSince x a cs) m
         → nameOf (toldSince x a cs) m ≡ nameThen nm (since x a cs)
         → ReadBack (run σ x cs) (toldSince x a cs) (sent ++ zeros (rest (length sent))) m b
@@ -203,7 +205,7 @@ module _ (σ : Service) (M S : ℕ) where
     pub records : pieces 2 2 (run σ x cs .img) (file (toldSince x a cs) s .secs) ≡ counted 1 ((length (sentBy n (since x a cs)) + 251) / 252)
     pub closes : (b : ℕ) → Asks (toldSince x a cs) n 4 → answers σ (run σ x cs) (asking n b) ≡ 0
     pub kept : (b : ℕ) → Asks (toldSince x a cs) n 4 → 1 ≤ length (sentBy n (since x a cs))
-        → Kept (next σ (run σ x cs) (asking n b)) (ledgerAfter (run σ x cs) (toldSince x a cs) (asking n b)) nm (sentBy n (since x a cs))
+        → Kept (next σ (run σ x cs) (asking n b)) (ledgerAfter (run σ x cs) (toldSince x a cs) (asking n b)) s nm (sentBy n (since x a cs))
 
   -- a new file is opened for write: accepted; then any calls, of block n's own only function 0 accepted
   pub record Created (x : Machine) (a : Ledger) (n s b : ℕ) : Type 0 where

@@ -189,6 +189,7 @@ module _ (M S : ℕ) (z : Shape M S) (ds : List ℕ) (d : Listing S ds) where
         pub at-rest : Rests (ledgerBy a φ) s f
         pub name : f .name ≡ nm
         pub bytes : concat (f .body) ≡ sent ++ zeros (rest (length sent))
+        pub recs : f .recs ≡ counted 1 ((length sent + 251) / 252)
 
       quiet-now : (m : ℕ) → m < 8 → writes (getD (set (a .blocks) n closed) m closed) ≢ suc s
       quiet-now m hm q = go (ℕ-discrete m n)
@@ -217,6 +218,7 @@ module _ (M S : ℕ) (z : Shape M S) (ds : List ℕ) (d : Listing S ds) where
                 f = file a s;
                 at-rest = record { is = refl; low = low; alive = alive; quiet = quiet-now };
                 name = w .name;
+                recs = w .recs ∙ ap (counted 1) (sym (y .0));
                 bytes = sym (content-none ((file a s) .body) (w .left) e) ∙ w .bytes ∙ sym (ap (λ (k : ℕ). sent ++ zeros k) (y .1) ∙ ap (λ (l : List ℕ). sent ++ l) zeros-none ∙ append-nil sent);
               })
           go (no e) =
@@ -233,13 +235,14 @@ module _ (M S : ℕ) (z : Shape M S) (ds : List ℕ) (d : Listing S ds) where
                   quiet = quiet-now;
                 };
                 name = w .name;
+                recs = w .recs ∙ ap (counted 1) (sym (y .0));
                 bytes = concat-last ((file a s) .body) (padTo 252 (w .left)) (omega (arith, body-length, has-secs))
                     ∙ ap (λ (l : List ℕ). concat (front ((file a s) .body)) ++ l) (pad-is 252 (w .left) (omega (arith, wr .short)))
                     ∙ sym (append-assoc (concat (front ((file a s) .body))) (w .left) (zeros (252 - length (w .left))))
                     ∙ ap₂ (λ (l : List ℕ) (k : ℕ). l ++ zeros k) (sym (content-some ((file a s) .body) (w .left) h) ∙ w .bytes) (sym (y .1));
               })
 
-      pub kept : legal nm 0 ≡ true → Kept flex M S (next flex x (asking n b)) (then M S a (entry flex x (asking n b))) nm sent
+      pub kept : legal nm 0 ≡ true → Kept flex M S (next flex x (asking n b)) (then M S a (entry flex x (asking n b))) s nm sent
       kept ok =
           let x1 = next flex x (asking n b) in
           let h1 = then M S a (entry flex x (asking n b)) in
@@ -248,6 +251,11 @@ module _ (M S : ℕ) (z : Shape M S) (ds : List ℕ) (d : Listing S ds) where
           let l = like-by x a g n b hn _ close-fate in
           let r1 = rests-like (ledgerBy a (shutBlock M S a n (asks a n b) (writing s (w .left)))) h1 l s (sh .f) (sh .at-rest) in
           record {
+            numbers = λ cs sv.
+                let ss = scenes M S h1 (log flex x1 cs) in
+                let rs = rests M S z ds d cs x1 h1 g1 s (sh .f) r1 (subst (λ (y : List ℕ). Survives y ss) (sym (sh .name)) sv) in
+                let g2 = always M S z ds d cs x1 h1 g1 .0 in
+                sym (g2 .agrees .holds s (omega (arith, rs .low, g2 .agrees .ns)) .recs) ∙ ap (λ (f : File). f .recs) (rs .is) ∙ sh .recs;
             back = λ cs sv m c ka i e.
                 let ss = scenes M S h1 (log flex x1 cs) in
                 let nm′ = nameThen nm ss in
