@@ -1,5 +1,6 @@
 -- What the history shows of files, and every answer and byte that it predicts, knows no sectors: of two ledgers that differ only in which sectors
--- are whose the same log makes two that differ so again, and it shows and predicts the same.
+-- are whose the same log makes two that differ so again, and it shows and predicts the same. So two diskettes with the same files, however their
+-- sectors lie, are answered alike by every service that meets demand 3.
 use mathlib.Core.Path.{_≡_, refl, sym, ap, _∙_, subst}
 use mathlib.Core.Logic.{_≢_}
 use mathlib.Core.Bool.{Bool, true, false}
@@ -7,13 +8,13 @@ use mathlib.Core.List.{List, [], _∷_, _++_}
 use Prim.Native.Nat.{ℕ, zero, suc, _+_, _-_, _*_, _/_, _%_, _≤_, _<_}
 use native.Mathlib.Omega.{arith}
 use native.Mathlib.Decide.{decLt}
-use lib.ListN.{length, getD, set, drop, length-set, length-append, List·getD-eq-default}
+use lib.ListN.{length, getD, set, length-set, length-append, List·getD-eq-default}
 use lib.Dec.{eqb, leb, ltb}
-use borrow.Author.Tests.{le-leb, eqb-true, ltb-true}
+use borrow.Author.Tests.{le-leb, ltb-true}
 use Rattle.rules.specs.Bytes.{pick, within, wordAt, part, over, one, two, six, zeros}
 use Rattle.rules.specs.Stores.{Put, put, puts}
-use Rattle.rules.specs.Outcome.{Effect, effect, answer, onBlock as putsOf}
-use Rattle.rules.specs.Image.{trackOf, sectorOf, index, isSector}
+use Rattle.rules.specs.Outcome.{Effect, answer, onBlock as putsOf}
+use Rattle.rules.specs.Image.{isSector}
 use Rattle.rules.specs.Names.{legal}
 use Rattle.rules.specs.Directory.{live, named, vacant, onSeen, placeOf}
 use Rattle.rules.specs.declared.Seen.{Seen}
@@ -21,20 +22,26 @@ use Rattle.rules.specs.Block.{presettable, idle, activityIn, presetIn, extensio
 use Rattle.rules.specs.Transfer.{takePuts, sent, shut, fresh}
 use Rattle.rules.specs.Files.{opened, writeProtected, deleteProtected}
 use Rattle.rules.specs.Call.{served, fits, misfit}
-use Rattle.laws.specs.Bytes.{length-one, length-two, length-six, length-zeros, zeros-at, length-part, length-over, part-same}
+use Rattle.laws.specs.Bytes.{length-one, length-six, zeros-at, length-part, length-over, part-same}
 use Rattle.laws.specs.Each.{Each, each-append, each-at}
-use Rattle.laws.specs.Small.{small-two}
+use Rattle.laws.specs.Small.{Small, small-nil, small-part, small-two}
 use Rattle.laws.specs.Tests.{pick-cases, within-true}
 use Rattle.laws.specs.Addresses.{Shape, Lies, data-is}
 use Rattle.chains.specs.Addresses.{adr, data-adr}
-use Rattle.chains.specs.Chain.{first, setLast}
-use Rattle.demands.specs.Ledger.{Call, setting, extending, asking, blockOf, File, noFile, entryOf, Block, closed, listing, reading, writing, Ledger, file, block, form, imageOf, Request, request, asks, Fate, denied, granted, Sought, nowhere, slot, later, onSought, seek, fileNamed, vacantSlot, activity, busy, onBlock, onFile, onFree, putInto, padTo, withLast, withNew, withMark, withName, newFile, attributes, joined, loaded, taken, transferred, openedToRead, openedToWrite, shutBlock, rewound, directoryOpened, shownNext, fetched, deleted, renamed, performed, called, ended, edits, fate, reply, gives, after}
-use Rattle.demands.specs.Service.{Entry}
-use Rattle.demands.specs.History.{noted, then, history, scenes, Told, pending, asShown, Shown, shownFrom, shown}
+use Rattle.chains.specs.Tally.{tally, flat, tally-head, tally-append, tally-one}
+use Rattle.chains.specs.Chain.{setLast, length-pieces}
+use Rattle.demands.specs.Ledger.{Call, setting, extending, asking, blockOf, File, noFile, entryOf, Block, closed, listing, reading, writing, Ledger, file, block, form, Request, asks, Fate, denied, granted, Sought, nowhere, slot, later, onSought, seek, fileNamed, vacantSlot, activity, busy, onBlock, onFile, onFree, putInto, withLast, withNew, withMark, withName, newFile, attributes, loaded, taken, transferred, openedToRead, openedToWrite, shutBlock, rewound, directoryOpened, shownNext, fetched, deleted, renamed, performed, called, ended, edits, fate, reply, gives, after, secsOf}
+use Rattle.demands.specs.Diskette.{formsFrom, ledgerOf}
+use Rattle.demands.specs.Service.{Service, Machine, Entry, answers, gave, next as after-call, entry, run, log}
+use Rattle.demands.specs.History.{noted, then, history, scenes, Told, pending, asShown, shownFrom, shown, content, filesOn}
+use Rattle.demands.specs.Demands.{Start, lastOf, perOf, begun, Demand3}
+use Rattle.met.specs.Relation.{Agrees}
 use Rattle.met.specs.Calls.{extension-length}
+use Rattle.met.specs.Runs.{start-shape, start-fine}
 
 -- ---- ledgers alike
 
+-- sector k is one for data
 abbrev pub InData : ℕ → ℕ → ℕ → Type 0
 InData M S k = (S ≤ k) × (k < (M + 1) * S)
 
@@ -45,7 +52,8 @@ pub record Unread (i : ℕ) : Type 0 where
   pub position : 30 ≤ i → i ≤ 31 → ⊥
   pub rename : 53 ≤ i → i ≤ 63 → ⊥
 
--- byte i of a block, here and there: the same; of the position, a track or a sector number of two addresses; or never read
+-- byte i of a block, here and there: the same, where 31 is a byte, so that it leaves the track as it is; of the position, a track or a sector
+-- number of two addresses; or never read
 pub data LikeByte (M S i x x′ : ℕ) : Type 0 where
   same : x ≡ x′ → (i ≡ 31 → x < 256) → LikeByte M S i x x′
   track : i ≡ 30 → 1 ≤ x → x ≤ M → 1 ≤ x′ → x′ ≤ M → LikeByte M S i x x′
@@ -56,19 +64,23 @@ pub record LikeForm (M S : ℕ) (m m′ : List ℕ) : Type 0 where
   pub long : length m ≡ length m′
   pub bytes : (i : ℕ) → LikeByte M S i (getD m i 0) (getD m′ i 0)
 
--- a slot: all but its sectors, which are as many, and its bytes 13-18, which name them
-pub record LikeFile (M S : ℕ) (f f′ : File) : Type 0 where
+-- a slot: all but its sectors, and its bytes 13-18, which name them
+pub record Twin (f f′ : File) : Type 0 where
   pub at : f .at ≡ f′ .at
   pub name : f .name ≡ f′ .name
   pub mode : f .mode ≡ f′ .mode
   pub date : f .date ≡ f′ .date
   pub recs : f .recs ≡ f′ .recs
   pub body : f .body ≡ f′ .body
+
+-- and as many sectors, all of them for data
+pub record LikeFile (M S : ℕ) (f f′ : File) : Type 0 where
+  pub twin : Twin f f′
   pub size : length (f .secs) ≡ length (f′ .secs)
   pub secs : Each (InData M S) (f .secs)
   pub secs′ : Each (InData M S) (f′ .secs)
 
--- its 24 bytes
+-- its 24 bytes are those of a slot
 pub record Long (f f′ : File) : Type 0 where
   pub name : length (f .name) ≡ 11
   pub mode : length (f .mode) ≡ 2
@@ -129,6 +141,15 @@ at-append R (x ∷ xs) (y ∷ xs′) ys ys′ c h g zero b = h 0 (omega arith)
 at-append R (x ∷ xs) (y ∷ xs′) ys ys′ c h g (suc j) b =
     at-append (λ k. R (suc k)) xs xs′ ys ys′ (omega arith) (λ k l. h (suc k) (omega arith))
     (λ k l. subst (λ (i : ℕ). R i (getD ys k 0) (getD ys′ k 0)) (omega arith) (g k l)) j (omega arith)
+
+-- slot s of both, or none
+by-slot : (P : File → File → Type 0) (fs fs′ : List File) → length fs ≡ length fs′ → (s : ℕ) → P noFile noFile
+    → (s < length fs → P (getD fs s noFile) (getD fs′ s noFile)) → P (getD fs s noFile) (getD fs′ s noFile)
+by-slot P fs fs′ c s p q = go (decLt s (length fs))
+  where
+    go : Dec (s < length fs) → P (getD fs s noFile) (getD fs′ s noFile)
+    go (yes h) = q h
+    go (no h) = rw (List·getD-eq-default fs noFile {n = s} (omega arith), List·getD-eq-default fs′ noFile {n = s} (omega arith)) p
 
 -- ---- what is put into a block
 
@@ -201,17 +222,17 @@ module _ (M S : ℕ) where
       length-append (f′ .name) (f′ .mode ++ (f′ .ends ++ f′ .date)),
       length-append (f′ .mode) (f′ .ends ++ f′ .date),
       length-append (f′ .ends) (f′ .date),
-      ap length (l .name),
-      ap length (l .mode),
-      ap length (l .date),
+      ap length (l .twin .name),
+      ap length (l .twin .mode),
+      ap length (l .twin .date),
     );
-    bytes = at-append (λ (j : ℕ). LikeByte M S (4 + j)) (f .name) (f′ .name) _ _ (ap length (l .name))
-        (λ j b. same (ap (λ (x : List ℕ). getD x j 0) (l .name)) (λ e. absurd (omega (arith, g .name))))
-        (at-append (λ (j : ℕ). LikeByte M S (4 + (length (f .name) + j))) (f .mode) (f′ .mode) _ _ (ap length (l .mode))
-        (λ j b. same (ap (λ (x : List ℕ). getD x j 0) (l .mode)) (λ e. absurd (omega (arith, g .name, g .mode))))
+    bytes = at-append (λ (j : ℕ). LikeByte M S (4 + j)) (f .name) (f′ .name) _ _ (ap length (l .twin .name))
+        (λ j b. same (ap (λ (x : List ℕ). getD x j 0) (l .twin .name)) (λ e. absurd (omega (arith, g .name))))
+        (at-append (λ (j : ℕ). LikeByte M S (4 + (length (f .name) + j))) (f .mode) (f′ .mode) _ _ (ap length (l .twin .mode))
+        (λ j b. same (ap (λ (x : List ℕ). getD x j 0) (l .twin .mode)) (λ e. absurd (omega (arith, g .name, g .mode))))
         (at-append (λ (j : ℕ). LikeByte M S (4 + (length (f .name) + (length (f .mode) + j)))) (f .ends) (f′ .ends) _ _ (g .ends ∙ sym (g .ends′))
         (λ j b. unread (ends-unread _ (omega (arith, g .name, g .mode)) (omega (arith, g .name, g .mode, g .ends))))
-        (λ j b. same (ap (λ (x : List ℕ). getD x j 0) (l .date)) (λ e. absurd (omega (arith, g .name, g .mode, g .ends, g .date))))));
+        (λ j b. same (ap (λ (x : List ℕ). getD x j 0) (l .twin .date)) (λ e. absurd (omega (arith, g .name, g .mode, g .ends, g .date))))));
   }
 
   -- a position that is an address
@@ -234,7 +255,14 @@ module _ (M S : ℕ) where
         go (suc zero) b = sector refl (l .sector-low) (l .sector-high) (l′ .sector-low) (l′ .sector-high)
         go (suc (suc j)) b = absurd (omega arith)
 
-    -- any mixture of bytes is judged alike
+    -- two bytes of which the one is of an address, as a track or a sector number
+    track-ok : (x y : ℕ) → x ≤ M → y < 256 → leb ((x * 256 + y) / 256 % 256) M ≡ true
+    track-ok x y h k = let e : (x * 256 + y) / 256 % 256 ≡ x = omega (arith, z) in ap (λ (t : ℕ). leb t M) e ∙ le-leb x M h
+
+    sector-ok : (x y : ℕ) → 1 ≤ y → y ≤ S → within 1 S ((x * 256 + y) % 256) ≡ true
+    sector-ok x y h k = let e : (x * 256 + y) % 256 ≡ y = omega (arith, z) in ap (within 1 S) e ∙ within-true 1 S y h k
+
+    -- any mixture is judged alike
     judged : (x x′ y y′ : ℕ) → LikeByte M S 30 x x′ → LikeByte M S 31 y y′ → isSector M S (x * 256 + y) ≡ isSector M S (x′ * 256 + y′)
     unfolding isSector
     judged x x′ y y′ (unread u) q = absurd (u .position (omega arith) (omega arith))
@@ -244,27 +272,15 @@ module _ (M S : ℕ) where
     judged x x′ y y′ (same e w) (same f v) = λ i. isSector M S (e i * 256 + f i)
     judged x x′ y y′ (same e w) (sector f a b c d) =
         let t : (x * 256 + y) / 256 % 256 ≡ (x′ * 256 + y′) / 256 % 256 = omega (arith, z) in
-        let s : (x * 256 + y) % 256 ≡ y = omega (arith, z) in
-        let s′ : (x′ * 256 + y′) % 256 ≡ y′ = omega (arith, z) in
-        let v : within 1 S ((x * 256 + y) % 256) ≡ within 1 S ((x′ * 256 + y′) % 256) = ap (within 1 S) s ∙ within-true 1 S y a b ∙ sym (ap (within 1 S) s′ ∙ within-true 1 S y′ c d) in
-        λ i. pick (leb (t i) M) (v i) false
+        rw (sector-ok x y a b, sector-ok x′ y′ c d) (ap (λ (t : ℕ). pick (leb t M) true false) t)
     judged x x′ y y′ (track e a b c d) (unread u) = absurd (u .position (omega arith) (omega arith))
-    judged x x′ y y′ (track e a b c d) (track f a2 b2 c2 d2) = absurd (omega arith)
+    judged x x′ y y′ (track e a b c d) (track f k l m n) = absurd (omega arith)
     judged x x′ y y′ (track e a b c d) (same f v) =
         let small : y < 256 = v refl in
-        let t : (x * 256 + y) / 256 % 256 ≡ x = omega (arith, z) in
-        let t′ : (x′ * 256 + y′) / 256 % 256 ≡ x′ = omega (arith, z) in
-        let u : leb ((x * 256 + y) / 256 % 256) M ≡ leb ((x′ * 256 + y′) / 256 % 256) M = ap (λ (k : ℕ). leb k M) t ∙ le-leb x M b ∙ sym (ap (λ (k : ℕ). leb k M) t′ ∙ le-leb x′ M d) in
         let s : (x * 256 + y) % 256 ≡ (x′ * 256 + y′) % 256 = omega arith in
-        λ i. pick (u i) (within 1 S (s i)) false
-    judged x x′ y y′ (track e a b c d) (sector f a2 b2 c2 d2) =
-        let t : (x * 256 + y) / 256 % 256 ≡ x = omega (arith, z) in
-        let t′ : (x′ * 256 + y′) / 256 % 256 ≡ x′ = omega (arith, z) in
-        let u : leb ((x * 256 + y) / 256 % 256) M ≡ leb ((x′ * 256 + y′) / 256 % 256) M = ap (λ (k : ℕ). leb k M) t ∙ le-leb x M b ∙ sym (ap (λ (k : ℕ). leb k M) t′ ∙ le-leb x′ M d) in
-        let s : (x * 256 + y) % 256 ≡ y = omega (arith, z) in
-        let s′ : (x′ * 256 + y′) % 256 ≡ y′ = omega (arith, z) in
-        let v : within 1 S ((x * 256 + y) % 256) ≡ within 1 S ((x′ * 256 + y′) % 256) = ap (within 1 S) s ∙ within-true 1 S y a2 b2 ∙ sym (ap (within 1 S) s′ ∙ within-true 1 S y′ c2 d2) in
-        λ i. pick (u i) (v i) false
+        rw (track-ok x y b small, track-ok x′ y′ d (omega arith)) (ap (within 1 S) s)
+    judged x x′ y y′ (track e a b c d) (sector f k l m n) =
+        rw (track-ok x y b (omega (arith, z)), track-ok x′ y′ d (omega (arith, z)), sector-ok x y k l, sector-ok x′ y′ m n) refl
 
 -- ---- what a request reads
 
@@ -315,7 +331,7 @@ seek-alike M S look [] (f ∷ fs′) c h = absurd (omega arith)
 seek-alike M S look (f ∷ fs) [] c h = absurd (omega arith)
 seek-alike M S look (f ∷ fs) (f′ ∷ fs′) c h =
     let r = seek-alike M S look fs fs′ (omega arith) (λ s. h (suc s)) in
-    λ i. onSeen (look (h 0 .name i)) (slot 0) nowhere (later (r i))
+    λ i. onSeen (look (h 0 .twin .name i)) (slot 0) nowhere (later (r i))
 
 files-shown : (M S : ℕ) (bs : List Block) (s : ℕ) (fs fs′ : List File) → length fs ≡ length fs′ → ((s : ℕ) → LikeFile M S (getD fs s noFile) (getD fs′ s noFile))
     → shownFrom bs s fs ≡ shownFrom bs s fs′
@@ -326,8 +342,8 @@ files-shown M S bs s (f ∷ fs) [] c h = absurd (omega arith)
 files-shown M S bs s (f ∷ fs) (f′ ∷ fs′) c h =
     let r = files-shown M S bs (s + 1) fs fs′ (omega arith) (λ t. h (suc t)) in
     let l = h 0 in
-    let e : asShown f (pending bs s 8) ≡ asShown f′ (pending bs s 8) = λ i. record { name = l .name i; mode = l .mode i; date = l .date i; bytes = Rattle.demands.specs.History.content (l .body i) (pending bs s 8) } in
-    λ i. pick (live (l .name i) 0) (e i ∷ r i) (r i)
+    let e : asShown f (pending bs s 8) ≡ asShown f′ (pending bs s 8) = λ i. record { name = l .twin .name i; mode = l .twin .mode i; date = l .twin .date i; bytes = content (l .twin .body i) (pending bs s 8) } in
+    λ i. pick (live (l .twin .name i) 0) (e i ∷ r i) (r i)
 
 shown-alike : (M S : ℕ) (a a′ : Ledger) → Alike M S a a′ → shown a ≡ shown a′
 shown-alike M S a a′ r = files-shown M S (a .blocks) 0 (a .slots) (a′ .slots) (r .count) (r .files) ∙ ap (λ (bs : List Block). shownFrom bs 0 (a′ .slots)) (r .blocks)
@@ -335,14 +351,12 @@ shown-alike M S a a′ r = files-shown M S (a .blocks) 0 (a .slots) (a′ .slots
 -- ---- changes of files
 
 module _ (M S : ℕ) (f f′ : File) (l : LikeFile M S f f′) where
+  abbrev t : Twin f f′
+  t = l .twin
+
   like-last : (d : List ℕ) → LikeFile M S (withLast f d) (withLast f′ d)
   like-last d = record {
-    at = l .at;
-    name = l .name;
-    mode = l .mode;
-    date = l .date;
-    recs = l .recs;
-    body = λ i. setLast (l .body i) d;
+    twin = record { at = t .at; name = t .name; mode = t .mode; date = t .date; recs = t .recs; body = λ i. setLast (t .body i) d };
     size = l .size;
     secs = l .secs;
     secs′ = l .secs′;
@@ -350,12 +364,14 @@ module _ (M S : ℕ) (f f′ : File) (l : LikeFile M S f f′) where
 
   like-new : (k k′ : ℕ) → InData M S k → InData M S k′ → LikeFile M S (withNew S f k) (withNew S f′ k′)
   like-new k k′ h h′ = record {
-    at = l .at;
-    name = l .name;
-    mode = l .mode;
-    date = l .date;
-    recs = λ i. l .recs i ++ two (l .size i + 1) ∷ [];
-    body = λ i. l .body i ++ zeros 252 ∷ [];
+    twin = record {
+      at = t .at;
+      name = t .name;
+      mode = t .mode;
+      date = t .date;
+      recs = λ i. t .recs i ++ two (l .size i + 1) ∷ [];
+      body = λ i. t .body i ++ zeros 252 ∷ [];
+    };
     size = length-append (f .secs) (k ∷ []) ∙ ap (λ (n : ℕ). n + 1) (l .size) ∙ sym (length-append (f′ .secs) (k′ ∷ []));
     secs = each-append (InData M S) (f .secs) (k ∷ []) (l .secs) (h, tt);
     secs′ = each-append (InData M S) (f′ .secs) (k′ ∷ []) (l .secs′) (h′, tt);
@@ -363,12 +379,7 @@ module _ (M S : ℕ) (f f′ : File) (l : LikeFile M S f f′) where
 
   like-mark : LikeFile M S (withMark f) (withMark f′)
   like-mark = record {
-    at = l .at;
-    name = λ i. set (l .name i) 0 255;
-    mode = l .mode;
-    date = l .date;
-    recs = refl;
-    body = refl;
+    twin = record { at = t .at; name = λ i. set (t .name i) 0 255; mode = t .mode; date = t .date; recs = refl; body = refl };
     size = refl;
     secs = tt;
     secs′ = tt;
@@ -376,19 +387,19 @@ module _ (M S : ℕ) (f f′ : File) (l : LikeFile M S f f′) where
 
   like-name : (nm : List ℕ) → LikeFile M S (withName f nm) (withName f′ nm)
   like-name nm = record {
-    at = l .at;
-    name = refl;
-    mode = l .mode;
-    date = l .date;
-    recs = l .recs;
-    body = l .body;
+    twin = record { at = t .at; name = refl; mode = t .mode; date = t .date; recs = t .recs; body = t .body };
     size = l .size;
     secs = l .secs;
     secs′ = l .secs′;
   }
 
   like-made : (nm date : List ℕ) → LikeFile M S (newFile (f .at) nm date) (newFile (f′ .at) nm date)
-  like-made nm date = record { at = l .at; name = refl; mode = refl; date = refl; recs = refl; body = refl; size = refl; secs = tt; secs′ = tt }
+  like-made nm date = record {
+    twin = record { at = t .at; name = refl; mode = refl; date = refl; recs = refl; body = refl };
+    size = refl;
+    secs = tt;
+    secs′ = tt;
+  }
 
 module _ (f f′ : File) (g : Long f f′) where
   long-last : (d : List ℕ) → Long (withLast f d) (withLast f′ d)
@@ -457,25 +468,16 @@ module _ (M S : ℕ) (a a′ : Ledger) (r : Alike M S a a′) where
         (puts-alike M S p (r .forms n));
   }
 
-  -- a slot, or none
-  by-slot : (P : File → File → Type 0) (s : ℕ) → P noFile noFile → (s < length (a .slots) → P (file a s) (file a′ s)) → P (file a s) (file a′ s)
-  by-slot P s p q = go (decLt s (length (a .slots)))
-    where
-      go : Dec (s < length (a .slots)) → P (file a s) (file a′ s)
-      go (yes h) = q h
-      go (no h) =
-          rw (List·getD-eq-default (a .slots) noFile {n = s} (omega arith), List·getD-eq-default (a′ .slots) noFile {n = s} (omega (arith, r .count))) p
-
   entry-alike : (s : ℕ) → Pieces M S 4 (entryOf (file a s)) (entryOf (file a′ s))
   unfolding entryOf
   entry-alike s =
-      by-slot (λ (f f′ : File). Pieces M S 4 (entryOf f) (entryOf f′)) s (piece-before M S 4 [] (omega arith))
+      by-slot (λ (f f′ : File). Pieces M S 4 (entryOf f) (entryOf f′)) (a .slots) (a′ .slots) (r .count) s (piece-before M S 4 [] (omega arith))
       (λ h. piece-entry M S (file a s) (file a′ s) (r .files s) (r .long s h))
 
   marked-alike : (s : ℕ) → Pieces M S 4 (entryOf (withMark (file a s))) (entryOf (withMark (file a′ s)))
   unfolding entryOf
   marked-alike s =
-      by-slot (λ (f f′ : File). Pieces M S 4 (entryOf (withMark f)) (entryOf (withMark f′))) s (piece-before M S 4 [] (omega arith))
+      by-slot (λ (f f′ : File). Pieces M S 4 (entryOf (withMark f)) (entryOf (withMark f′))) (a .slots) (a′ .slots) (r .count) s (piece-before M S 4 [] (omega arith))
       (λ h. piece-entry M S _ _ (like-mark M S (file a s) (file a′ s) (r .files s)) (long-mark (file a s) (file a′ s) (r .long s h)))
 
 -- ---- fates
@@ -535,7 +537,7 @@ module _ (M S : ℕ) (z : Shape M S) (a a′ : Ledger) (r : Alike M S a a′) (n
   named-alike nm = seek-alike M S (λ x. named x nm 0) (a .slots) (a′ .slots) (r .count) (r .files)
 
   mode-alike : (s : ℕ) → attributes a s ≡ attributes a′ s
-  mode-alike s = ap (λ (l : List ℕ). getD l 0 0) (r .files s .mode)
+  mode-alike s = ap (λ (l : List ℕ). getD l 0 0) (r .files s .twin .mode)
 
   sent-alike : (i : ℕ) → LikePuts M S (sent i (q .byte)) (sent i (q .byte))
   unfolding sent
@@ -565,8 +567,8 @@ module _ (M S : ℕ) (z : Shape M S) (a a′ : Ledger) (r : Alike M S a a′) (n
   unfolding loaded two
   load-alike s j h =
       let l = r .files s in
-      let e : getD ((file a s) .recs) j [] ≡ getD ((file a′ s) .recs) j [] = ap (λ (x : List (List ℕ)). getD x j []) (l .recs) in
-      let d : getD ((file a s) .body) j [] ≡ getD ((file a′ s) .body) j [] = ap (λ (x : List (List ℕ)). getD x j []) (l .body) in
+      let e : getD ((file a s) .recs) j [] ≡ getD ((file a′ s) .recs) j [] = ap (λ (x : List (List ℕ)). getD x j []) (l .twin .recs) in
+      let d : getD ((file a s) .body) j [] ≡ getD ((file a′ s) .body) j [] = ap (λ (x : List (List ℕ)). getD x j []) (l .twin .body) in
       next 30 (piece-position M S z _ _ (each-at (InData M S) ((file a s) .secs) j 0 (l .secs) h) (each-at (InData M S) ((file a′ s) .secs) j 0 (l .secs′) (omega (arith, l .size))))
       (next 32 (piece-behind M S 32 _ _ (omega arith) e)
       (next 64 (piece-buffer M S _ _ (λ i. suc (suc (length (e i ++ d i)))))
@@ -579,9 +581,9 @@ module _ (M S : ℕ) (z : Shape M S) (a a′ : Ledger) (r : Alike M S a a′) (n
       let l = r .files s in
       like-pick M S (eqb i 0) _ _ _ _ _ refl
       (λ _. like-pick M S (ltb j (length ((file a s) .secs))) _ _ _ _ _ (ap (ltb j) (l .size))
-      (λ h. accepted (ap (λ (x : List (List ℕ)). getD (getD x j []) 0 0) (l .body)) (alike-block M S a a′ r n _ _ refl) (load-alike s j (ltb-true j _ h)))
+      (λ h. accepted (ap (λ (x : List (List ℕ)). getD (getD x j []) 0 0) (l .twin .body)) (alike-block M S a a′ r n _ _ refl) (load-alike s j (ltb-true j _ h)))
       (refused refl))
-      (accepted (ap (λ (x : List (List ℕ)). getD (getD x (j - 1) []) (i - 4) 0) (l .body)) (alike-block M S a a′ r n _ _ refl)
+      (accepted (ap (λ (x : List (List ℕ)). getD (getD x (j - 1) []) (i - 4) 0) (l .twin .body)) (alike-block M S a a′ r n _ _ refl)
       (next 34 (piece-one M S 34 _ (omega arith)) none))
   transfer-alike (writing s ub) =
       like-pick M S (eqb (length ub) 0) _ _ _ _ _ refl (λ _. take-alike s (a .free) (a′ .free) (r .free) (r .frees) (r .frees′))
@@ -607,7 +609,7 @@ module _ (M S : ℕ) (z : Shape M S) (a a′ : Ledger) (r : Alike M S a a′) (n
       like-pick M S (legal (q .name) 0) _ _ _ _ _ refl
       (λ _. like-sought M S (fileNamed (q .name) (a .slots)) _ _ _ _ _ (named-alike (q .name)) (refused refl)
       (λ s. like-pick M S (busy false s (a .blocks) 8) _ _ _ _ _ (busy-alike false s) (λ _. refused refl)
-      (accepted refl (alike-block M S a a′ r n _ _ refl) (opened-alike 1 _ _ _ _ (r .files s .at) (entry-alike M S a a′ r s)))))
+      (accepted refl (alike-block M S a a′ r n _ _ refl) (opened-alike 1 _ _ _ _ (r .files s .twin .at) (entry-alike M S a a′ r s)))))
       (refused refl)
 
   open-write-alike : length (q .name) ≡ 11 → length (q .date) ≡ 3 → L (openedToWrite M S a n q) (openedToWrite M S a′ n q′)
@@ -619,7 +621,7 @@ module _ (M S : ℕ) (z : Shape M S) (a a′ : Ledger) (r : Alike M S a a′) (n
       (λ s.
       let l = like-made M S (file a s) (file a′ s) (r .files s) (q .name) (q .date) in
       let g = long-made ((file a s) .at) ((file a′ s) .at) (q .name) (q .date) ln ld in
-      accepted refl (alike-file M S a a′ r s _ _ n (writing s []) _ l (λ b. g) refl) (opened-alike 2 _ _ _ _ (l .at) (piece-entry M S _ _ l g))))
+      accepted refl (alike-file M S a a′ r s _ _ n (writing s []) _ l (λ b. g) refl) (opened-alike 2 _ _ _ _ (l .twin .at) (piece-entry M S _ _ l g))))
       (λ s. refused refl))
       (refused refl)
 
@@ -655,7 +657,7 @@ module _ (M S : ℕ) (z : Shape M S) (a a′ : Ledger) (r : Alike M S a a′) (n
   list-alike (listing p) =
       like-pick M S (ltb p (length (a .slots))) _ _ _ _ _ (ap (ltb p) (r .count))
       (λ _. accepted refl (alike-block M S a a′ r n _ _ refl)
-      (next 47 (piece-behind M S 47 _ _ (omega arith) (ap placeOf (r .files p .at))) (next 4 (entry-alike M S a a′ r p) none)))
+      (next 47 (piece-behind M S 47 _ _ (omega arith) (ap placeOf (r .files p .twin .at))) (next 4 (entry-alike M S a a′ r p) none)))
       (refused refl)
   list-alike (reading s j i) = refused refl
   list-alike (writing s ub) = refused refl
@@ -808,6 +810,11 @@ module _ (M S : ℕ) (z : Shape M S) (a a′ : Ledger) (r : Alike M S a a′) wh
 abbrev pub Bytes : List Entry → Type 0
 Bytes es = Each (λ (e : Entry). Byte (e .made)) es
 
+bytes-log : (σ : Service) (cs : List Call) (x : Machine) → Each Byte cs → Bytes (log σ x cs)
+unfolding log entry
+bytes-log σ [] x h = tt
+bytes-log σ (c ∷ cs) x h = (h .0, bytes-log σ cs (after-call σ x c) (h .1))
+
 module _ (M S : ℕ) (z : Shape M S) where
   -- THE HISTORIES are alike again
   pub history-alike : (es : List Entry) → Bytes es → (a a′ : Ledger) → Alike M S a a′ → Alike M S (history M S a es) (history M S a′ es)
@@ -830,3 +837,124 @@ module _ (M S : ℕ) (z : Shape M S) where
         (λ t. (t .0 ∙ like-reply M S l, t .1 ∙ like-gives M S l, u .0 (t .2))),
         (λ t. (t .0 ∙ sym (like-reply M S l), t .1 ∙ sym (like-gives M S l), u .1 (t .2))),
       )
+
+  -- and so two logs of the same calls, each as predicted, are the same: every answer, every byte
+  pub log-only : (σ : Service) (cs : List Call) → Each Byte cs → (x x′ : Machine) (a a′ : Ledger) → Alike M S a a′ → Told M S (scenes M S a (log σ x cs))
+      → Told M S (scenes M S a′ (log σ x′ cs)) → log σ x cs ≡ log σ x′ cs
+  unfolding log scenes entry
+  log-only σ [] h x x′ a a′ r t t′ = refl
+  log-only σ (c ∷ cs) h x x′ a a′ r t t′ =
+      let l = fate-alike M S z a a′ r c (h .0) in
+      let p : answers σ x c ≡ answers σ x′ c = t .0 ∙ like-reply M S l ∙ sym (t′ .0) in
+      let q : gave σ x c ≡ gave σ x′ c = t .1 ∙ like-gives M S l ∙ sym (t′ .1) in
+      let e : entry σ x c ≡ entry σ x′ c = λ i. record { made = c; ans = p i; back = q i } in
+      let u = log-only σ cs (h .1) (after-call σ x c) (after-call σ x′ c) (then M S a (entry σ x c)) (then M S a′ (entry σ x c)) (then-alike M S z a a′ r (entry σ x c) (h .0)) (t .2)
+      (subst (λ (y : Entry). Told M S (scenes M S (then M S a′ y) (log σ (after-call σ x′ c) cs))) (sym e) (t′ .2)) in
+      λ i. e i ∷ u i
+
+-- ---- two diskettes with the same files, however their sectors lie
+
+-- what the ledger of a start says of sectors and lengths
+record Sited (M S : ℕ) (a : Ledger) : Type 0 where
+  frees : Each (InData M S) (a .free)
+  secs : (s : ℕ) → s < length (a .slots) → Each (InData M S) ((file a s) .secs)
+  long : (s : ℕ) → s < length (a .slots) → Long (file a s) (file a s)
+  size : (s : ℕ) → s < length (a .slots) → length ((file a s) .body) ≡ length ((file a s) .secs)
+
+each-tally : (P : ℕ → Type 0) (xs : List ℕ) → ((x : ℕ) → 1 ≤ tally x xs → P x) → Each P xs
+each-tally P [] h = tt
+each-tally P (x ∷ xs) h = (h x (tally-head x xs), each-tally P xs (λ y t. h y (omega arith)))
+
+sited : (M S : ℕ) (ds img tab : List ℕ) (a : Ledger) → Agrees M S ds img tab a → Sited M S a
+sited M S ds img tab a r = record {
+  frees = each-tally (InData M S) (a .free) (λ x t. in-data x (omega (arith, tally-append x (a .free) (flat secsOf (a .slots)))));
+  secs = λ s h. each-tally (InData M S) ((file a s) .secs)
+      (λ x t. in-data x (omega (arith, tally-append x (a .free) (flat secsOf (a .slots)), tally-one secsOf x (a .slots) s noFile h)));
+  long = λ s h.
+      let g = r .holds s (omega (arith, r .ns)) in
+      record {
+        name = ap length (sym (g .name)) ∙ length-part _ _ 11;
+        mode = ap length (sym (g .mode)) ∙ length-part _ _ 2;
+        ends = ap length (sym (g .ends)) ∙ length-part _ _ 6;
+        ends′ = ap length (sym (g .ends)) ∙ length-part _ _ 6;
+        date = ap length (sym (g .date)) ∙ length-part _ _ 5;
+      };
+  size = λ s h. ap length (r .holds s (omega (arith, r .ns)) .body) ∙ length-pieces 4 252 img ((file a s) .secs);
+}
+  where
+    in-data : (x : ℕ) → 1 ≤ tally x (a .free ++ flat secsOf (a .slots)) → InData M S x
+    in-data x t = (r .once .low x t, r .once .high x t)
+
+-- of the same shape, as many free sectors, the same slots, the same table of bytes
+pub record Twins (x x′ : Machine) : Type 0 where
+  pub tracks : lastOf x ≡ lastOf x′
+  pub sectors : perOf x ≡ perOf x′
+  pub free : length (begun x .free) ≡ length (begun x′ .free)
+  pub count : length (begun x .slots) ≡ length (begun x′ .slots)
+  pub files : (s : ℕ) → s < length (begun x .slots) → Twin (file (begun x) s) (file (begun x′) s)
+  pub table : x .tab ≡ x′ .tab
+  pub bytes : Small (x .tab)
+
+small-forms : (tab : List ℕ) → Small tab → (f c n : ℕ) → Small (getD (formsFrom tab f c) n [])
+unfolding formsFrom
+small-forms tab h f zero n = small-nil
+small-forms tab h f (suc c) zero = small-part tab f 320 h
+small-forms tab h f (suc c) (suc n) = small-forms tab h (f + 320) c n
+
+form-self : (M S : ℕ) (m : List ℕ) → Small m → LikeForm M S m m
+form-self M S m h = record { long = refl; bytes = λ i. same refl (λ e. h .at i) }
+
+sited-alike : (M S : ℕ) (a a′ : Ledger) → Sited M S a → Sited M S a′ → length (a .free) ≡ length (a′ .free) → length (a .slots) ≡ length (a′ .slots)
+    → ((s : ℕ) → s < length (a .slots) → Twin (file a s) (file a′ s)) → a .blocks ≡ a′ .blocks → a .forms ≡ a′ .forms
+    → ((n : ℕ) → Small (form a n)) → Alike M S a a′
+sited-alike M S a a′ g g′ fr c t b e sm = record {
+  free = fr;
+  frees = g .frees;
+  frees′ = g′ .frees;
+  count = c;
+  files = λ s. by-slot (LikeFile M S) (a .slots) (a′ .slots) c s
+      (record { twin = record { at = refl; name = refl; mode = refl; date = refl; recs = refl; body = refl }; size = refl; secs = tt; secs′ = tt })
+      (λ h. record {
+        twin = t s h;
+        size = sym (g .size s h) ∙ ap length (t s h .body) ∙ g′ .size s (omega arith);
+        secs = g .secs s h;
+        secs′ = g′ .secs s (omega arith);
+      });
+  long = λ s h.
+      let l = g .long s h in
+      record { name = l .name; mode = l .mode; ends = l .ends; ends′ = g′ .long s (omega arith) .ends; date = l .date };
+  blocks = b;
+  number = ap length e;
+  forms = λ n. subst (λ (m : List ℕ). LikeForm M S (form a n) m) (ap (λ (l : List (List ℕ)). getD l n []) e) (form-self M S (form a n) (sm n));
+}
+
+module _ (x x′ : Machine) (s : Start x) (s′ : Start x′) (t : Twins x x′) where
+  abbrev M : ℕ
+  M = lastOf x
+
+  abbrev S : ℕ
+  S = perOf x
+
+  -- their ledgers are alike
+  pub starts-alike : Alike M S (begun x) (begun x′)
+  unfolding ledgerOf
+  starts-alike =
+      let g′ = sited (lastOf x′) (perOf x′) _ (x′ .img) (x′ .tab) (begun x′) (start-fine x′ s′ .agrees) in
+      sited-alike M S (begun x) (begun x′) (sited M S _ (x .img) (x .tab) (begun x) (start-fine x s .agrees))
+      (subst (λ (m : ℕ). Sited m S (begun x′)) (sym (t .tracks)) (subst (λ (p : ℕ). Sited (lastOf x′) p (begun x′)) (sym (t .sectors)) g′)) (t .free) (t .count) (t .files) refl
+      (ap (λ (m : List ℕ). formsFrom m 0 8) (t .table)) (λ n. small-forms (x .tab) (t .bytes) 0 8 n)
+
+  -- any service that meets demand 3 answers every list of calls alike on both, with the same bytes, and leaves the same files
+  module _ (σ : Service) (d : Demand3 σ) (cs : List Call) (h : Each Byte cs) where
+    pub twins-log : log σ x cs ≡ log σ x′ cs
+    twins-log =
+        log-only M S (start-shape x s) σ cs h x x′ (begun x) (begun x′) starts-alike (d x s cs .answered)
+        (subst (λ (m : ℕ). Told m S (scenes m S (begun x′) (log σ x′ cs))) (sym (t .tracks))
+        (subst (λ (p : ℕ). Told (lastOf x′) p (scenes (lastOf x′) p (begun x′) (log σ x′ cs))) (sym (t .sectors)) (d x′ s′ cs .answered)))
+
+    pub twins-files : filesOn (perOf x) (run σ x cs .img) (run σ x cs .tab) ≡ filesOn (perOf x′) (run σ x′ cs .img) (run σ x′ cs .tab)
+    twins-files =
+        d x s cs .files
+        ∙ shown-only M S (start-shape x s) (log σ x cs) (bytes-log σ cs x h) (begun x) (begun x′) starts-alike
+        ∙ (λ i. shown (history (t .tracks i) (t .sectors i) (begun x′) (twins-log i)))
+        ∙ sym (d x′ s′ cs .files)
