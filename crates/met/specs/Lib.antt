@@ -31,3 +31,5 @@ pub mod Stays
 -- demands 2 and 3
 pub mod Second
 pub mod Third
+-- what is shown and predicted knows no sectors
+pub mod Forget
