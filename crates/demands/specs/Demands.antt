@@ -120,11 +120,11 @@ abbrev pub surveyAnswer : Survey → ℕ
 surveyAnswer (survey a xs ys) = a
 
 -- last track and sectors a track, of the start; how many data sectors there are
-abbrev pub lastOf : Machine → ℕ
-lastOf x = lastTrack (x .img)
+abbrev pub lastTrackOf : Machine → ℕ
+lastTrackOf x = lastTrack (x .img)
 
-abbrev pub perOf : Machine → ℕ
-perOf x = perTrack (x .img)
+abbrev pub perTrackOf : Machine → ℕ
+perTrackOf x = perTrack (x .img)
 
 abbrev pub dataSectors : List ℕ → ℕ
 dataSectors img = lastTrack img * perTrack img
@@ -139,13 +139,13 @@ pub record Start (x : Machine) : Type 0 where
 
 -- the history's ledger of the start; what it has after these calls, and each of them with what it had before: folds over the log
 abbrev pub begun : Machine → Ledger
-begun x = ledgerOf (perOf x) (x .img) (x .tab)
+begun x = ledgerOf (perTrackOf x) (x .img) (x .tab)
 
 abbrev pub told : Service → Machine → List Call → Ledger
-told σ x cs = history (lastOf x) (perOf x) (begun x) (log σ x cs)
+told σ x cs = history (lastTrackOf x) (perTrackOf x) (begun x) (log σ x cs)
 
 abbrev pub past : Service → Machine → List Call → List Scene
-past σ x cs = scenes (lastOf x) (perOf x) (begun x) (log σ x cs)
+past σ x cs = scenes (lastTrackOf x) (perTrackOf x) (begun x) (log σ x cs)
 
 -- by the history block n asks for this function, on drive 0
 pub record Asks (a : Ledger) (n code : ℕ) : Type 0 where
@@ -221,7 +221,7 @@ pub record Demand2 (σ : Service) : Type 0 where
   pub creates : (x : Machine) → Start x → (cs : List Call) (n s b : ℕ) → Asks (told σ x cs) n 2 → Idle (told σ x cs) n
       → legal (nameOf (told σ x cs) n) 0 ≡ true → fileNamed (nameOf (told σ x cs) n) (told σ x cs .slots) ≡ nowhere
       → vacantSlot (told σ x cs .slots) ≡ slot s
-      → Created σ (lastOf x) (perOf x) (run σ x cs) (told σ x cs) n s b
+      → Created σ (lastTrackOf x) (perTrackOf x) (run σ x cs) (told σ x cs) n s b
 
 -- ---- DEMAND 3: the diskette stays sound, and is what the history says
 
@@ -232,7 +232,7 @@ inSlot p (o ∷ os) = pick (within o (o + 23) p) true (inSlot p os)
 
 -- slot s of the start begins here
 abbrev pub placeIn : Machine → ℕ → ℕ
-placeIn x s = getD (slots (x .img) (perOf x)) s 0
+placeIn x s = getD (slots (x .img) (perTrackOf x)) s 0
 
 -- all 256 bytes of each of these sectors
 abbrev pub wholly : List ℕ → List ℕ → List (List ℕ)
@@ -240,19 +240,19 @@ wholly img ks = pieces 0 256 img ks
 
 pub record Sound (σ : Service) (x : Machine) (cs : List Call) : Type 0 where
   -- every answer and every byte is the one that the history predicts; every byte of image and table is what the history says
-  pub answered : Told (lastOf x) (perOf x) (past σ x cs)
-  pub image : run σ x cs .img ≡ imageOf (perOf x) (told σ x cs)
+  pub answered : Told (lastTrackOf x) (perTrackOf x) (past σ x cs)
+  pub image : run σ x cs .img ≡ imageOf (perTrackOf x) (told σ x cs)
   pub table : run σ x cs .tab ≡ tableOf (told σ x cs)
   -- the census accepts, and lists what the history has; each data sector once
   pub accepted : (xs ys : List ℕ) → length xs ≡ dataSectors (x .img) → length ys ≡ dataSectors (x .img)
-      → σ .census (run σ x cs .img) xs ys ≡ survey 0 (ledgerNumbers (perOf x) (told σ x cs)) (ledgerOwners (told σ x cs))
-  pub each-once : (k : ℕ) → k < dataSectors (x .img) → tally k (ledgerNumbers (perOf x) (told σ x cs)) ≡ 1
-  pub no-more : length (ledgerNumbers (perOf x) (told σ x cs)) ≡ dataSectors (x .img)
+      → σ .census (run σ x cs .img) xs ys ≡ survey 0 (ledgerNumbers (perTrackOf x) (told σ x cs)) (ledgerOwners (told σ x cs))
+  pub each-once : (k : ℕ) → k < dataSectors (x .img) → tally k (ledgerNumbers (perTrackOf x) (told σ x cs)) ≡ 1
+  pub no-more : length (ledgerNumbers (perTrackOf x) (told σ x cs)) ≡ dataSectors (x .img)
   -- the slots stand where they stood, and each has its 24 bytes by the history
-  pub places : slots (run σ x cs .img) (perOf x) ≡ slots (x .img) (perOf x)
-  pub entries : (s : ℕ) → s < length (slots (x .img) (perOf x)) → part (run σ x cs .img) (placeIn x s) 24 ≡ entryOf (file (told σ x cs) s)
+  pub places : slots (run σ x cs .img) (perTrackOf x) ≡ slots (x .img) (perTrackOf x)
+  pub entries : (s : ℕ) → s < length (slots (x .img) (perTrackOf x)) → part (run σ x cs .img) (placeIn x s) 24 ≡ entryOf (file (told σ x cs) s)
   -- the files that image and table have, by links, an unfinished sector's bytes from its control block, are those that the history shows
-  pub files : filesOn (perOf x) (run σ x cs .img) (run σ x cs .tab) ≡ shown (told σ x cs)
+  pub files : filesOn (perTrackOf x) (run σ x cs .img) (run σ x cs .tab) ≡ shown (told σ x cs)
   -- a block that reads gets the first of the bytes that are still to come, or 8
   pub readers : (n b : ℕ) → Asks (told σ x cs) n 0 → activity (block (told σ x cs) n) ≡ 1
       → (answers σ (run σ x cs) (asking n b) ≡ pick (eqb (length (ahead (told σ x cs) (block (told σ x cs) n))) 0) 8 0)
@@ -261,20 +261,20 @@ pub record Sound (σ : Service) (x : Machine) (cs : List Call) : Type 0 where
   pub lists : (n b p : ℕ) → Asks (told σ x cs) n 7 → block (told σ x cs) n ≡ listing p → p < length (told σ x cs .slots)
       → (answers σ (run σ x cs) (asking n b) ≡ 0)
       × (part (next σ (run σ x cs) (asking n b) .tab) (320 * n + 4) 24 ≡ entryOf (file (told σ x cs) p))
-  pub fetches : (n b : ℕ) → Asks (told σ x cs) n 9 → Idle (told σ x cs) n → isSector (lastOf x) (perOf x) (asks (told σ x cs) n b .position) ≡ true
+  pub fetches : (n b : ℕ) → Asks (told σ x cs) n 9 → Idle (told σ x cs) n → isSector (lastTrackOf x) (perTrackOf x) (asks (told σ x cs) n b .position) ≡ true
       → (answers σ (run σ x cs) (asking n b) ≡ 0)
-      × (part (next σ (run σ x cs) (asking n b) .tab) (320 * n + 64) 256 ≡ part (run σ x cs .img) (256 * index (perOf x) (asks (told σ x cs) n b .position)) 256)
+      × (part (next σ (run σ x cs) (asking n b) .tab) (320 * n + 64) 256 ≡ part (run σ x cs .img) (256 * index (perTrackOf x) (asks (told σ x cs) n b .position)) 256)
   -- every byte of track 0 outside of the slots and of the information record's 29-34 stays; a free sector stays while it is free
-  pub stays : (p : ℕ) → p < 256 * perOf x → within 541 546 p ≡ false → inSlot p (slots (x .img) (perOf x)) ≡ false
+  pub stays : (p : ℕ) → p < 256 * perTrackOf x → within 541 546 p ≡ false → inSlot p (slots (x .img) (perTrackOf x)) ≡ false
       → byteAt (run σ x cs .img) p ≡ byteAt (x .img) p
   pub rests : (c : Call) (k : ℕ) → member k (told σ x cs .free) ≡ true → member k (told σ x (cs ++ c ∷ []) .free) ≡ true
       → part (run σ x (cs ++ c ∷ []) .img) (256 * k + 2) 254 ≡ part (run σ x cs .img) (256 * k + 2) 254
   -- a file of the start that no accepted call deletes or renames keeps its slot's 24 bytes, its sectors, and all 256 bytes of each of them
-  pub spared : (s : ℕ) → s < length (slots (x .img) (perOf x)) → live (x .img) (placeIn x s) ≡ true
+  pub spared : (s : ℕ) → s < length (slots (x .img) (perTrackOf x)) → live (x .img) (placeIn x s) ≡ true
       → Unnamed (part (x .img) (placeIn x s) 11) (past σ x cs)
       → (part (run σ x cs .img) (placeIn x s) 24 ≡ part (x .img) (placeIn x s) 24)
-      × (chainAt (perOf x) (run σ x cs .img) (placeIn x s + 13) ≡ chainAt (perOf x) (x .img) (placeIn x s + 13))
-      × (wholly (run σ x cs .img) (chainAt (perOf x) (x .img) (placeIn x s + 13)) ≡ wholly (x .img) (chainAt (perOf x) (x .img) (placeIn x s + 13)))
+      × (chainAt (perTrackOf x) (run σ x cs .img) (placeIn x s + 13) ≡ chainAt (perTrackOf x) (x .img) (placeIn x s + 13))
+      × (wholly (run σ x cs .img) (chainAt (perTrackOf x) (x .img) (placeIn x s + 13)) ≡ wholly (x .img) (chainAt (perTrackOf x) (x .img) (placeIn x s + 13)))
 
 abbrev pub Demand3 : Service → Type 0
 Demand3 σ = (x : Machine) → Start x → (cs : List Call) → Sound σ x cs

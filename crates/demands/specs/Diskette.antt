@@ -39,11 +39,11 @@ filesAt S img [] = []
 filesAt S img (o ∷ os) = fileAt S img o ∷ filesAt S img os
 
 -- the bytes of c blocks, the first of which begins at f
-unfoldable pub formsFrom : List ℕ → ℕ → ℕ → List (List ℕ)
-formsFrom tab f zero = []
-formsFrom tab f (suc c) = part tab f 320 ∷ formsFrom tab (f + 320) c
+unfoldable pub fcbsFrom : List ℕ → ℕ → ℕ → List (List ℕ)
+fcbsFrom tab f zero = []
+fcbsFrom tab f (suc c) = part tab f 320 ∷ fcbsFrom tab (f + 320) c
 
--- THE START: the ledger of image and table, all blocks closed
+-- THE START: the ledger of an image and of a table whose blocks are all closed
 unfoldable pub ledgerOf : ℕ → List ℕ → List ℕ → Ledger
 ledgerOf S img tab = record {
   base = img;
@@ -51,7 +51,7 @@ ledgerOf S img tab = record {
   spare = insides img (chainAt S img 541);
   slots = filesAt S img (slots img S);
   blocks = replicate 8 closed;
-  forms = formsFrom tab 0 8;
+  fcbs = fcbsFrom tab 0 8;
 }
 
 -- ---- what the census lists

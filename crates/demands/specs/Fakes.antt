@@ -5,7 +5,7 @@ use mathlib.Core.List.{List, [], _∷_}
 use Prim.Native.Nat.{ℕ, zero, suc, _+_, _*_}
 use lib.ListN.{length}
 use lib.Dec.{eqb, ltb}
-use Rattle.rules.specs.Bytes.{pick, part, over, one, zeros}
+use Rattle.rules.specs.Bytes.{pick, byteAt, wordAt, part, over, one, zeros}
 use Rattle.rules.specs.Image.{shapeRight, freeCount}
 use Rattle.rules.specs.Outcome.{Out, out}
 use Rattle.rules.specs.Block.{functionIn, activityIn}
@@ -169,6 +169,19 @@ booting = withImage (transfers 2) (λ img. over img 0 (one 99))
 -- a byte read leaves a wrong position. "Position .. follow"
 abbrev pub misplacing : Service
 misplacing = withTable (transfers 1) (λ n tab. over tab (320 * n + 31) (one 9))
+
+-- where the directory's sector is linked to itself, so that the census gives 42: a byte read leaves the index, and comes again for ever. "index + 1"
+abbrev pub selfLinked : List ℕ → Bool
+selfLinked img = eqb (wordAt img 1024) 5
+
+abbrev pub stalling : Service
+stalling = withCall (λ img tab n b.
+    spoilt (pick (selfLinked img) (transfers 1 tab n) false) (λ m. m) (λ m. over m (320 * n + 34) (one (byteAt tab (320 * n + 34)))) (flex .call img tab n b))
+
+-- where first free is a sector of track 0, so that the census gives 44: a rename clears another slot. "Bytes not named here stay"
+abbrev pub purging : Service
+purging = withCall (λ img tab n b.
+    spoilt (pick (eqb (byteAt img 541) 0) (asksFor 13 tab n) false) (λ m. over m 1040 (zeros 24)) (λ m. m) (flex .call img tab n b))
 
 -- 4 is answered for 5. "5 directory not right"
 abbrev pub softened : ℕ → Out → Out

@@ -16,7 +16,7 @@ use Rattle.demands.specs.Service.{Entry}
 
 -- ---- the fold
 
--- a refused call leaves its number in byte 1 of its block; a refused preset nothing
+-- a refused call leaves its number in byte 1 of its block, and nothing where there is no such block; a refused preset nothing
 abbrev pub noted : Ledger → Call → ℕ → Ledger
 noted a (setting n i v) e = a
 noted a (extending n c) e = a

@@ -7,7 +7,7 @@ use lib.ListN.{length, getD, set, drop}
 use lib.Dec.{eqb, ltb}
 use Rattle.rules.specs.Bytes.{pick, byteAt, wordAt, part, one, two, six, zeros}
 use Rattle.rules.specs.Stores.{Store, store, stored, Put, put, puts}
-use Rattle.rules.specs.Outcome.{Effect, answer, onBlock as putsOf}
+use Rattle.rules.specs.Outcome.{Effect, answer, onBlock}
 use Rattle.rules.specs.Image.{index, isSector, infoSector}
 use Rattle.rules.specs.Names.{legal}
 use Rattle.rules.specs.Directory.{named, vacant, onSeen, placeOf}
@@ -34,7 +34,9 @@ blockOf (asking n b) = n
 
 -- ---- what the ledger knows
 
--- a slot: where it begins in the image; its 24 bytes, which are the name (0-10), the attributes (11-12), start, end and size (13-18), and what
+-- a sector is its index in the whole image, t·S + s - 1, and `adr S` is its address; index 0 stands for none, since no data sector has it, and
+-- adr S 0 is 0,0.
+-- A slot: where it begins in the image; its 24 bytes, which are the name (0-10), the attributes (11-12), start, end and size (13-18), and what
 -- ends in the date (19-23); its file's sectors in order, and of each its record number (bytes 2-3) and its data (bytes 4-255)
 pub record File : Type 0 where
   pub at : ℕ
@@ -72,7 +74,7 @@ pub record Ledger : Type 0 where
   pub spare : List (List ℕ)
   pub slots : List File
   pub blocks : List Block
-  pub forms : List (List ℕ)
+  pub fcbs : List (List ℕ)
 
 abbrev pub file : Ledger → ℕ → File
 file a s = getD (a .slots) s noFile
@@ -80,8 +82,8 @@ file a s = getD (a .slots) s noFile
 abbrev pub block : Ledger → ℕ → Block
 block a n = getD (a .blocks) n closed
 
-abbrev pub form : Ledger → ℕ → List ℕ
-form a n = getD (a .forms) n []
+abbrev pub fcb : Ledger → ℕ → List ℕ
+fcb a n = getD (a .fcbs) n []
 
 -- ---- image and table, by the ledger
 
@@ -113,7 +115,7 @@ imageOf S a = stored (a .base) (store infoSector 29 (freeRecord S (a .free)) ∷
 
 -- THE TABLE: the blocks' bytes
 abbrev pub tableOf : Ledger → List ℕ
-tableOf a = flat (λ b. b) (a .forms)
+tableOf a = flat (λ b. b) (a .fcbs)
 
 -- ---- what a call asks for, by the bytes of its block, which begins at f of m: function code, drive, name, new name, date, position; and the byte sent
 pub record Request : Type 0 where
@@ -138,7 +140,7 @@ request m f b = record {
 
 -- what block n asks for, by the ledger
 abbrev pub asks : Ledger → ℕ → ℕ → Request
-asks a n b = request (form a n) 0 b
+asks a n b = request (fcb a n) 0 b
 
 -- what a call comes to: refused with a number, or accepted with a byte, a new ledger, and what is put into the block
 pub data Fate : Type 0 where
@@ -194,24 +196,24 @@ busy readers s bs (suc n) = pick (holdsOpen readers s (getD bs n closed)) true (
 -- ---- changes
 
 -- block n does b from now on
-abbrev pub onBlock : Ledger → ℕ → Block → Ledger
-onBlock a n b =
-    record { base = a .base; free = a .free; spare = a .spare; slots = a .slots; blocks = set (a .blocks) n b; forms = a .forms }
+abbrev pub setBlock : Ledger → ℕ → Block → Ledger
+setBlock a n b =
+    record { base = a .base; free = a .free; spare = a .spare; slots = a .slots; blocks = set (a .blocks) n b; fcbs = a .fcbs }
 
 -- and slot s becomes f
-abbrev pub onFile : Ledger → ℕ → File → ℕ → Block → Ledger
-onFile a s f n b =
-    record { base = a .base; free = a .free; spare = a .spare; slots = set (a .slots) s f; blocks = set (a .blocks) n b; forms = a .forms }
+abbrev pub setFile : Ledger → ℕ → File → ℕ → Block → Ledger
+setFile a s f n b =
+    record { base = a .base; free = a .free; spare = a .spare; slots = set (a .slots) s f; blocks = set (a .blocks) n b; fcbs = a .fcbs }
 
 -- and these sectors are free, with these bytes 2-255
-abbrev pub onFree : Ledger → List ℕ → List (List ℕ) → ℕ → File → ℕ → Block → Ledger
-onFree a ks vs s f n b =
-    record { base = a .base; free = ks; spare = vs; slots = set (a .slots) s f; blocks = set (a .blocks) n b; forms = a .forms }
+abbrev pub setFree : Ledger → List ℕ → List (List ℕ) → ℕ → File → ℕ → Block → Ledger
+setFree a ks vs s f n b =
+    record { base = a .base; free = ks; spare = vs; slots = set (a .slots) s f; blocks = set (a .blocks) n b; fcbs = a .fcbs }
 
 -- bytes are put into block n
 abbrev pub putInto : Ledger → ℕ → List Put → Ledger
 putInto a n ps =
-    record { base = a .base; free = a .free; spare = a .spare; slots = a .slots; blocks = a .blocks; forms = set (a .forms) n (puts (form a n) 0 ps) }
+    record { base = a .base; free = a .free; spare = a .spare; slots = a .slots; blocks = a .blocks; fcbs = set (a .fcbs) n (puts (fcb a n) 0 ps) }
 
 -- n bytes, the first from l, zeros after them
 unfoldable pub padTo : ℕ → List ℕ → List ℕ
@@ -263,7 +265,7 @@ whenA bad e next = pick bad (denied e) next
 abbrev pub attributes : Ledger → ℕ → ℕ
 attributes a s = byteAt ((file a s) .mode) 0
 
--- what a load of sector j puts into the block: position, record number, buffer, index
+-- what a load of sector j puts into the block: position, record number, buffer; the index is 4, and the byte that is read there moves it on
 unfoldable pub loaded : ℕ → File → ℕ → List Put
 loaded S f j =
     put positionField (two (adr S (getD (f .secs) j 0)))
@@ -277,7 +279,7 @@ module _ (M S : ℕ) (a : Ledger) (n : ℕ) (q : Request) where
   abbrev pub taken : ℕ → List ℕ → Fate
   taken s [] = denied 7
   taken s (k ∷ fr) =
-      granted 0 (onFree a fr (drop 1 (a .spare)) s (withNew S (file a s) k) n (writing s (q .byte ∷ [])))
+      granted 0 (setFree a fr (drop 1 (a .spare)) s (withNew S (file a s) k) n (writing s (q .byte ∷ [])))
       (takePuts (adr S k) (adr S (first ((file a s) .secs ++ k ∷ []) 0)) (length ((file a s) .secs) + 1) ++ sent 4 (q .byte))
 
   abbrev pub transferred : Block → Fate
@@ -286,14 +288,14 @@ module _ (M S : ℕ) (a : Ledger) (n : ℕ) (q : Request) where
   transferred (reading s j i) =
       pick (eqb i 0)
       (pick (ltb j (length ((file a s) .secs)))
-      (granted (getD (getD ((file a s) .body) j []) 0 0) (onBlock a n (reading s (suc j) 5)) (loaded S (file a s) j))
+      (granted (getD (getD ((file a s) .body) j []) 0 0) (setBlock a n (reading s (suc j) 5)) (loaded S (file a s) j))
       (denied 8))
-      (granted (getD (getD ((file a s) .body) (j - 1) []) (i - 4) 0) (onBlock a n (reading s j ((i + 1) % 256))) (put indexField (one ((i + 1) % 256)) ∷ []))
+      (granted (getD (getD ((file a s) .body) (j - 1) []) (i - 4) 0) (setBlock a n (reading s j ((i + 1) % 256))) (put indexField (one ((i + 1) % 256)) ∷ []))
   transferred (writing s ub) =
       pick (eqb (length ub) 0) (taken s (a .free))
       (pick (eqb (length ub) 251)
-      (granted 0 (onFile a s (withLast (file a s) (padTo 251 ub ++ q .byte ∷ [])) n (writing s [])) (sent 255 (q .byte)))
-      (granted 0 (onBlock a n (writing s (ub ++ q .byte ∷ []))) (sent (4 + length ub) (q .byte))))
+      (granted 0 (setFile a s (withLast (file a s) (padTo 251 ub ++ q .byte ∷ [])) n (writing s [])) (sent 255 (q .byte)))
+      (granted 0 (setBlock a n (writing s (ub ++ q .byte ∷ []))) (sent (4 + length ub) (q .byte))))
 
   -- 1
   unfoldable pub openedToRead : Fate
@@ -301,7 +303,7 @@ module _ (M S : ℕ) (a : Ledger) (n : ℕ) (q : Request) where
       unlessA (legal (q .name) 0) 21
       (onSought (fileNamed (q .name) (a .slots)) (denied 4) (λ s.
       whenA (busy false s (a .blocks) 8) 2
-      (granted 0 (onBlock a n (reading s 0 0)) (opened 1 ((file a s) .at) (entryOf (file a s))))))
+      (granted 0 (setBlock a n (reading s 0 0)) (opened 1 ((file a s) .at) (entryOf (file a s))))))
 
   -- 2
   unfoldable pub openedToWrite : Fate
@@ -310,36 +312,36 @@ module _ (M S : ℕ) (a : Ledger) (n : ℕ) (q : Request) where
       (onSought (fileNamed (q .name) (a .slots))
       (onSought (vacantSlot (a .slots)) (denied 6) (λ s.
       let new = newFile ((file a s) .at) (q .name) (q .date) in
-      granted 0 (onFile a s new n (writing s [])) (opened 2 (new .at) (entryOf new))))
+      granted 0 (setFile a s new n (writing s [])) (opened 2 (new .at) (entryOf new))))
       (λ s. denied 3))
 
   -- 4
   abbrev pub shutBlock : Block → Fate
   shutBlock closed = denied 13
-  shutBlock (listing p) = granted 0 (onBlock a n closed) shut
-  shutBlock (reading s j i) = granted 0 (onBlock a n closed) shut
+  shutBlock (listing p) = granted 0 (setBlock a n closed) shut
+  shutBlock (reading s j i) = granted 0 (setBlock a n closed) shut
   shutBlock (writing s ub) =
-      pick (eqb (length ((file a s) .secs)) 0) (granted 0 (onFile a s (withMark (file a s)) n closed) shut)
-      (pick (eqb (length ub) 0) (granted 0 (onBlock a n closed) shut)
-      (granted 0 (onFile a s (withLast (file a s) (padTo 252 ub)) n closed) shut))
+      pick (eqb (length ((file a s) .secs)) 0) (granted 0 (setFile a s (withMark (file a s)) n closed) shut)
+      (pick (eqb (length ub) 0) (granted 0 (setBlock a n closed) shut)
+      (granted 0 (setFile a s (withLast (file a s) (padTo 252 ub)) n closed) shut))
 
   -- 5
   abbrev pub rewound : Block → Fate
   rewound closed = denied 18
   rewound (listing p) = denied 18
-  rewound (reading s j i) = granted 0 (onBlock a n (reading s 0 0)) (put functionField (one 0) ∷ put positionField (two 0) ∷ put indexField (one 0) ∷ [])
+  rewound (reading s j i) = granted 0 (setBlock a n (reading s 0 0)) (put functionField (one 0) ∷ put positionField (two 0) ∷ put indexField (one 0) ∷ [])
   rewound (writing s ub) = denied 18
 
   -- 6
   abbrev pub directoryOpened : Fate
-  directoryOpened = granted 0 (onBlock a n (listing 0)) (put activityField (one 16) ∷ put placeField (zeros 3) ∷ [])
+  directoryOpened = granted 0 (setBlock a n (listing 0)) (put activityField (one 16) ∷ put placeField (zeros 3) ∷ [])
 
   -- 7
   abbrev pub shownNext : Block → Fate
   shownNext closed = denied 18
   shownNext (listing p) =
       pick (ltb p (length (a .slots)))
-      (granted 0 (onBlock a n (listing (suc p))) (put placeField (placeOf ((file a p) .at)) ∷ put nameField (entryOf (file a p)) ∷ []))
+      (granted 0 (setBlock a n (listing (suc p))) (put placeField (placeOf ((file a p) .at)) ∷ put nameField (entryOf (file a p)) ∷ []))
       (denied 8)
   shownNext (reading s j i) = denied 18
   shownNext (writing s ub) = denied 18
@@ -358,7 +360,7 @@ module _ (M S : ℕ) (a : Ledger) (n : ℕ) (q : Request) where
       whenA (busy true s (a .blocks) 8) 2
       (whenA (deleteProtected (attributes a s)) 12
       (whenA (writeProtected (attributes a s)) 11
-      (granted 0 (onFree a (a .free ++ (file a s) .secs) (a .spare ++ joined ((file a s) .recs) ((file a s) .body)) s (withMark (file a s)) n (block a n))
+      (granted 0 (setFree a (a .free ++ (file a s) .secs) (a .spare ++ joined ((file a s) .recs) ((file a s) .body)) s (withMark (file a s)) n (block a n))
       (put nameField (entryOf (withMark (file a s))) ∷ []))))))
 
   -- 13
@@ -370,9 +372,10 @@ module _ (M S : ℕ) (a : Ledger) (n : ℕ) (q : Request) where
       whenA (busy true s (a .blocks) 8) 2
       (whenA (writeProtected (attributes a s)) 11
       (onSought (fileNamed (q .rename) (a .slots))
-      (granted 0 (onFile a s (withName (file a s) (q .rename)) n (block a n)) (put nameField (q .rename) ∷ []))
+      (granted 0 (setFile a s (withName (file a s) (q .rename)) n (block a n)) (put nameField (q .rename) ∷ []))
       (λ t. denied 3))))))
 
+  -- (9 is named first so that no other function computes the image)
   unfoldable pub performed : Fate
   performed =
       let sector = fetched in
@@ -387,7 +390,8 @@ module _ (M S : ℕ) (a : Ledger) (n : ℕ) (q : Request) where
       (pick (eqb (q .code) 12) deleted
       renamed))))))))
 
-  -- a call of block n that asks for q
+  -- a call of block n that asks for q. 16 for the shape, 5, 9 in reading and deleting, and 10 cannot occur where the history leads: that they do
+  -- not is part of what is demanded
   unfoldable pub called : Fate
   called =
       unlessA (served (q .code)) 1
@@ -402,12 +406,12 @@ ended (granted b a ps) = granted b a (ps ++ put 1 (one 0) ∷ [])
 
 -- a preset or a default extension: by its rule, on the block's own bytes
 abbrev pub edits : Ledger → Effect → Fate
-edits a e = pick (eqb (answer e) 0) (granted 0 a (putsOf e)) (denied (answer e))
+edits a e = pick (eqb (answer e) 0) (granted 0 a (onBlock e)) (denied (answer e))
 
 -- THE FATE of a call in a ledger
 unfoldable pub fate : ℕ → ℕ → Ledger → Call → Fate
-fate M S a (setting n i v) = unlessA (ltb n 8) 13 (edits a (presetIn (form a n) 0 i v))
-fate M S a (extending n c) = unlessA (ltb n 8) 13 (edits a (extensionIn (form a n) 0 c))
+fate M S a (setting n i v) = unlessA (ltb n 8) 13 (edits a (presetIn (fcb a n) 0 i v))
+fate M S a (extending n c) = unlessA (ltb n 8) 13 (edits a (extensionIn (fcb a n) 0 c))
 fate M S a (asking n b) = unlessA (ltb n 8) 13 (ended (called M S a n (asks a n b)))
 
 -- its answer, the byte that it gives, the ledger after it where block n made it

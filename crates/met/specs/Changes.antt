@@ -19,7 +19,7 @@ use Rattle.rules.specs.Files.{opened, writeProtected, deleteProtected}
 use Rattle.rules.specs.Call.{served, fits}
 use Rattle.laws.specs.Tests.{pick-cases, pick-all}
 use Rattle.chains.specs.Addresses.{absurd-bool}
-use Rattle.demands.specs.Ledger.{File, noFile, Block, closed, listing, reading, writing, Ledger, Request, Fate, denied, granted, Sought, nowhere, slot, onSought, fileNamed, vacantSlot, busy, activity, block, file, attributes, onBlock, onFile, onFree, withMark, withName, newFile, taken, transferred, openedToRead, openedToWrite, shutBlock, rewound, shownNext, deleted, fetched, renamed, performed, called, joined, entryOf}
+use Rattle.demands.specs.Ledger.{File, noFile, Block, closed, listing, reading, writing, Ledger, Request, Fate, denied, granted, Sought, nowhere, slot, onSought, fileNamed, vacantSlot, busy, activity, block, file, attributes, setBlock, setFile, setFree, withMark, withName, newFile, taken, transferred, openedToRead, openedToWrite, shutBlock, rewound, shownNext, deleted, fetched, renamed, performed, called, joined, entryOf}
 use Rattle.met.specs.Tames.{last-code}
 use Rattle.met.specs.Relation.{opens, writes, Keeps, Agrees}
 use Rattle.met.specs.Searches.{slot-same, seek-found, named-hit, vacant-hit, marked-dead}
@@ -41,19 +41,19 @@ pub data Freed (a : Ledger) : List ℕ → List (List ℕ) → Type 0 where
 pub data Change (a : Ledger) (n : ℕ) (q : Request) : Ledger → Type 0 where
   -- nothing, or block n alone
   still : q .code ≢ 13 → Change a n q a
-  turned : q .code ≢ 13 → (b : Block) → Steady a n b → Change a n q (onBlock a n b)
+  turned : q .code ≢ 13 → (b : Block) → Steady a n b → Change a n q (setBlock a n b)
   -- the file that block n writes: its bytes, or it is dropped
   worked : q .code ≢ 13 → (s : ℕ) (ub fr : List ℕ) (vs : List (List ℕ)) (f : File) (b : Block) → block a n ≡ writing s ub → f .name ≡ (file a s) .name → Steady a n b
-      → Freed a fr vs → Change a n q (onFree a fr vs s f n b)
-  dropped : q .code ≢ 13 → (s : ℕ) (ub : List ℕ) → block a n ≡ writing s ub → Change a n q (onFile a s (withMark (file a s)) n closed)
+      → Freed a fr vs → Change a n q (setFree a fr vs s f n b)
+  dropped : q .code ≢ 13 → (s : ℕ) (ub : List ℕ) → block a n ≡ writing s ub → Change a n q (setFile a s (withMark (file a s)) n closed)
   -- a new file; one deleted by its name; one renamed by its name
   made : q .code ≢ 13 → (s : ℕ) → legal (q .name) 0 ≡ true → fileNamed (q .name) (a .slots) ≡ nowhere → vacantSlot (a .slots) ≡ slot s
-      → Change a n q (onFile a s (newFile ((file a s) .at) (q .name) (q .date)) n (writing s []))
+      → Change a n q (setFile a s (newFile ((file a s) .at) (q .name) (q .date)) n (writing s []))
   gone : (s : ℕ) → q .code ≡ 12 → fileNamed (q .name) (a .slots) ≡ slot s → busy true s (a .blocks) 8 ≡ false
-      → Change a n q (onFree a (a .free ++ (file a s) .secs) (a .spare ++ joined ((file a s) .recs) ((file a s) .body)) s (withMark (file a s)) n (block a n))
+      → Change a n q (setFree a (a .free ++ (file a s) .secs) (a .spare ++ joined ((file a s) .recs) ((file a s) .body)) s (withMark (file a s)) n (block a n))
   retitled : (s : ℕ) → q .code ≡ 13 → fileNamed (q .name) (a .slots) ≡ slot s → busy true s (a .blocks) 8 ≡ false → legal (q .rename) 0 ≡ true
       → fileNamed (q .rename) (a .slots) ≡ nowhere
-      → Change a n q (onFile a s (withName (file a s) (q .rename)) n (block a n))
+      → Change a n q (setFile a s (withName (file a s) (q .rename)) n (block a n))
 
 abbrev pub Changes : Ledger → ℕ → Request → Fate → Type 0
 Changes a n q (denied e) = Unit {0}
@@ -79,7 +79,7 @@ module _ (M S : ℕ) (a : Ledger) (n : ℕ) (q : Request) where
   unfolding openedToRead
   change-open-read ne = pick-all C (legal (q .name) 0) _ _ (go (fileNamed (q .name) (a .slots))) tt
     where
-      go : (x : Sought) → C (onSought x (denied 4) (λ s. pick (busy false s (a .blocks) 8) (denied 2) (granted 0 (onBlock a n (reading s 0 0)) (opened 1 ((file a s) .at) (entryOf (file a s))))))
+      go : (x : Sought) → C (onSought x (denied 4) (λ s. pick (busy false s (a .blocks) 8) (denied 2) (granted 0 (setBlock a n (reading s 0 0)) (opened 1 ((file a s) .at) (entryOf (file a s))))))
       go nowhere = tt
       go (slot s) = pick-all C (busy false s (a .blocks) 8) _ _ tt (turned ne _ (λ t h. absurd (omega arith)))
 
@@ -88,7 +88,7 @@ module _ (M S : ℕ) (a : Ledger) (n : ℕ) (q : Request) where
   change-open-write ne = pick-cases C (legal (q .name) 0) _ _ (λ h. go h (fileNamed (q .name) (a .slots)) refl (vacantSlot (a .slots)) refl) (λ h. tt)
     where
       go : legal (q .name) 0 ≡ true → (x : Sought) → fileNamed (q .name) (a .slots) ≡ x → (y : Sought) → vacantSlot (a .slots) ≡ y
-          → C (onSought x (onSought y (denied 6) (λ s. granted 0 (onFile a s (newFile ((file a s) .at) (q .name) (q .date)) n (writing s [])) (opened 2 ((file a s) .at) (entryOf (newFile ((file a s) .at) (q .name) (q .date)))))) (λ s. denied 3))
+          → C (onSought x (onSought y (denied 6) (λ s. granted 0 (setFile a s (newFile ((file a s) .at) (q .name) (q .date)) n (writing s [])) (opened 2 ((file a s) .at) (entryOf (newFile ((file a s) .at) (q .name) (q .date)))))) (λ s. denied 3))
       go h (slot s) e y f = tt
       go h nowhere e nowhere f = tt
       go h nowhere e (slot s) f = made ne s h e f
@@ -118,7 +118,7 @@ module _ (M S : ℕ) (a : Ledger) (n : ℕ) (q : Request) where
     where
       go : (x : Sought) → fileNamed (q .name) (a .slots) ≡ x
           → C (onSought x (denied 4) (λ s. pick (busy true s (a .blocks) 8) (denied 2) (pick (deleteProtected (attributes a s)) (denied 12) (pick (writeProtected (attributes a s)) (denied 11)
-          (granted 0 (onFree a (a .free ++ (file a s) .secs) (a .spare ++ joined ((file a s) .recs) ((file a s) .body)) s (withMark (file a s)) n (block a n)) (put 4 (entryOf (withMark (file a s))) ∷ []))))))
+          (granted 0 (setFree a (a .free ++ (file a s) .secs) (a .spare ++ joined ((file a s) .recs) ((file a s) .body)) s (withMark (file a s)) n (block a n)) (put 4 (entryOf (withMark (file a s))) ∷ []))))))
       go nowhere e = tt
       go (slot s) e =
           pick-cases C (busy true s (a .blocks) 8) _ _ (λ h. tt) (λ h. pick-all C (deleteProtected (attributes a s)) _ _ tt (pick-all C (writeProtected (attributes a s)) _ _ tt (gone s c e h)))
@@ -131,7 +131,7 @@ module _ (M S : ℕ) (a : Ledger) (n : ℕ) (q : Request) where
     where
       go : legal (q .rename) 0 ≡ true → (x : Sought) → fileNamed (q .name) (a .slots) ≡ x → (y : Sought) → fileNamed (q .rename) (a .slots) ≡ y
           → C (onSought x (denied 4) (λ s. pick (busy true s (a .blocks) 8) (denied 2) (pick (writeProtected (attributes a s)) (denied 11)
-          (onSought y (granted 0 (onFile a s (withName (file a s) (q .rename)) n (block a n)) (put 4 (q .rename) ∷ [])) (λ t. denied 3)))))
+          (onSought y (granted 0 (setFile a s (withName (file a s) (q .rename)) n (block a n)) (put 4 (q .rename) ∷ [])) (λ t. denied 3)))))
       go h nowhere e y f = tt
       go h (slot s) e (slot t) f = pick-all C (busy true s (a .blocks) 8) _ _ tt (pick-all C (writeProtected (attributes a s)) _ _ tt tt)
       go h (slot s) e nowhere f =
@@ -164,7 +164,7 @@ module _ (M S : ℕ) (a : Ledger) (n : ℕ) (q : Request) where
 -- ---- what is left as it was
 
 -- the bytes of the blocks are put in elsewhere
-pub forms-kept : (a a′ : Ledger) (n : ℕ) (q : Request) → Change a n q a′ → a′ .forms ≡ a .forms
+pub forms-kept : (a a′ : Ledger) (n : ℕ) (q : Request) → Change a n q a′ → a′ .fcbs ≡ a .fcbs
 forms-kept a a′ n q (still ne) = refl
 forms-kept a a′ n q (turned ne b st) = refl
 forms-kept a a′ n q (worked ne s ub fr vs f b x y st fd) = refl
@@ -216,29 +216,29 @@ slot-fate a a′ n q (still ne) s = kept refl (λ c. absurd (ne c))
 slot-fate a a′ n q (turned ne b st) s = kept refl (λ c. absurd (ne c))
 slot-fate a a′ n q (worked ne t ub fr vs f b x y st fd) s = go (ℕ-discrete s t)
   where
-    go : Dec (s ≡ t) → Slot a (onFree a fr vs t f n b) n q s
+    go : Dec (s ≡ t) → Slot a (setFree a fr vs t f n b) n q s
     go (yes e) = own ub (x ∙ ap (λ (k : ℕ). writing k ub) (sym e))
     go (no e) = kept (getD-set-other (a .slots) t s f noFile e) (λ c. absurd (ne c))
 slot-fate a a′ n q (dropped ne t ub x) s = go (ℕ-discrete s t)
   where
-    go : Dec (s ≡ t) → Slot a (onFile a t (withMark (file a t)) n closed) n q s
+    go : Dec (s ≡ t) → Slot a (setFile a t (withMark (file a t)) n closed) n q s
     go (yes e) = own ub (x ∙ ap (λ (k : ℕ). writing k ub) (sym e))
     go (no e) = kept (getD-set-other (a .slots) t s (withMark (file a t)) noFile e) (λ c. absurd (ne c))
 slot-fate a a′ n q (made ne t x y w) s = go (ℕ-discrete s t)
   where
-    go : Dec (s ≡ t) → Slot a (onFile a t (newFile ((file a t) .at) (q .name) (q .date)) n (writing t [])) n q s
+    go : Dec (s ≡ t) → Slot a (setFile a t (newFile ((file a t) .at) (q .name) (q .date)) n (writing t [])) n q s
     go (yes e) = fresh (w ∙ ap slot (sym e))
     go (no e) = kept (getD-set-other (a .slots) t s (newFile ((file a t) .at) (q .name) (q .date)) noFile e) (λ c. absurd (ne c))
 slot-fate a a′ n q (gone t x y by) s = go (ℕ-discrete s t)
   where
-    go : Dec (s ≡ t) → Slot a (onFree a (a .free ++ (file a t) .secs) (a .spare ++ joined ((file a t) .recs) ((file a t) .body)) t (withMark (file a t)) n (block a n)) n q s
+    go : Dec (s ≡ t) → Slot a (setFree a (a .free ++ (file a t) .secs) (a .spare ++ joined ((file a t) .recs) ((file a t) .body)) t (withMark (file a t)) n (block a n)) n q s
     go (yes e) =
         lost x (y ∙ ap slot (sym e)) (ap (λ (k : ℕ). busy true k (a .blocks) 8) e ∙ by)
         (λ h. subst (λ (k : ℕ). getD (set (a .slots) k (withMark (file a k))) s noFile ≡ withMark (file a s)) e (getD-set-same (a .slots) s (withMark (file a s)) noFile h))
     go (no e) = kept (getD-set-other (a .slots) t s (withMark (file a t)) noFile e) (λ c. absurd (omega (arith, c, x)))
 slot-fate a a′ n q (retitled t x y by w v) s = go (ℕ-discrete s t)
   where
-    go : Dec (s ≡ t) → Slot a (onFile a t (withName (file a t) (q .rename)) n (block a n)) n q s
+    go : Dec (s ≡ t) → Slot a (setFile a t (withName (file a t) (q .rename)) n (block a n)) n q s
     go (yes e) =
         moved x (y ∙ ap slot (sym e)) (ap (λ (k : ℕ). busy true k (a .blocks) 8) e ∙ by)
         (λ h. subst (λ (k : ℕ). getD (set (a .slots) k (withName (file a k) (q .rename))) s noFile ≡ withName (file a s) (q .rename)) e

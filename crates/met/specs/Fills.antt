@@ -25,7 +25,7 @@ use Rattle.chains.specs.Snoc.{snoc-other, snoc-last, length-snoc}
 use Rattle.laws.specs.Each.{Each}
 use Rattle.laws.specs.Stores.{Within, stored-off, stored-at, puts-off, puts-at}
 use Rattle.chains.specs.Frame.{Frame, framed, in-sector}
-use Rattle.demands.specs.Ledger.{File, noFile, Block, closed, listing, reading, writing, Ledger, Request, onBlock, onFile, withLast, padTo, shutBlock}
+use Rattle.demands.specs.Ledger.{File, noFile, Block, closed, listing, reading, writing, Ledger, Request, setBlock, setFile, withLast, padTo, shutBlock}
 use Rattle.met.specs.Relation.{tb, t2, opens, writes, Holds, Reading, Writing, Listed, Keeps, Agrees, t2-same, tp-same, Turn, step}
 use Rattle.met.specs.Quiet.{turned, on-block, shut-block, alone1, alone2, nobody}
 use Rattle.met.specs.Meets.{Meets, meets-pick}
@@ -105,7 +105,7 @@ module _ (M S : ℕ) (z : Shape M S) (ds : List ℕ) (d : Listing S ds) (img tab
         → Keeps S (slotsOf ds) tab′ n (set (a .slots) s (withLast f v)) b
         → ((n′ : ℕ) → n′ < 8 → n′ ≢ n → 1 ≤ writes b → writes b ≢ opens (getD (a .blocks) n′ closed))
         → ((n′ : ℕ) → n′ < 8 → n′ ≢ n → 1 ≤ opens b → writes (getD (a .blocks) n′ closed) ≢ opens b)
-        → Agrees M S ds img′ tab′ (onFile a s (withLast f v) n b)
+        → Agrees M S ds img′ tab′ (setFile a s (withLast f v) n b)
     fill-step n tab′ b ub hn t e kb p q =
         step M S z ds d img tab a r img′ tab′ (k ∷ []) (a .free) (a .spare) n s (withLast f v) b hn hs fill-frame t fill-free fill-spare fill-holds kb
         (λ x h. let y : x ≡ k = in-one x k h in subst (λ (c : ℕ). 1 ≤ tally c (a .free) + tally c (f .secs)) (sym y) (omega (arith, kt)))
@@ -176,7 +176,7 @@ module _ (M S : ℕ) (z : Shape M S) (ds : List ℕ) (d : Listing S ds) (img tab
             buffer = λ q k l. buf k l (ℕ-discrete k (length ub));
           }
 
-          pub write-in : Agrees M S ds img tab′ (onBlock a n (writing s (ub ++ b ∷ [])))
+          pub write-in : Agrees M S ds img tab′ (setBlock a n (writing s (ub ++ b ∷ [])))
           unfolding one
           write-in =
               on-block M S z ds d img tab a r n hn tab′ (writing s (ub ++ b ∷ [])) (turned tab n ps (omega arith)) (ap opens (sym e)) (ap writes (sym e)) write-now
@@ -209,7 +209,7 @@ module _ (M S : ℕ) (z : Shape M S) (ds : List ℕ) (d : Listing S ds) (img tab
       }
 
       pub full-step : (b : ℕ) → length ub ≡ 251
-          → Agrees M S ds (stored img (store (lastOf (g .secs) 0) 4 (padTo 251 ub ++ b ∷ []) ∷ [])) (puts tab (320 * n) (fs b)) (onFile a s (withLast g (padTo 251 ub ++ b ∷ [])) n (writing s []))
+          → Agrees M S ds (stored img (store (lastOf (g .secs) 0) 4 (padTo 251 ub ++ b ∷ []) ∷ [])) (puts tab (320 * n) (fs b)) (setFile a s (withLast g (padTo 251 ub ++ b ∷ [])) n (writing s []))
       unfolding one
       full-step b lb =
           let so : 1 ≤ length (g .secs) = w .some (omega arith) in
@@ -236,7 +236,7 @@ module _ (M S : ℕ) (z : Shape M S) (ds : List ℕ) (d : Listing S ds) (img tab
     unfolding one
     shut-now = puts-at shutPs tab (320 * n) 0 0 (320 * n + 2) (omega arith) (omega arith) (omega arith) (in-table 2 (omega arith)) tt
 
-    shut-step : Agrees M S ds img (puts tab (320 * n) shutPs) (onBlock a n closed)
+    shut-step : Agrees M S ds img (puts tab (320 * n) shutPs) (setBlock a n closed)
     shut-step = shut-block M S z ds d img tab a r n hn (puts tab (320 * n) shutPs) closed shut-turn refl refl shut-now
 
     close-writing : (q : Request) (s : ℕ) (ub : List ℕ) → getD (a .blocks) n closed ≡ writing s ub

@@ -30,11 +30,11 @@ use Rattle.laws.specs.Addresses.{Shape, Lies, data-is}
 use Rattle.chains.specs.Addresses.{adr, data-adr}
 use Rattle.chains.specs.Tally.{tally, flat, tally-head, tally-append, tally-one}
 use Rattle.chains.specs.Chain.{setLast, length-pieces}
-use Rattle.demands.specs.Ledger.{Call, setting, extending, asking, blockOf, File, noFile, entryOf, Block, closed, listing, reading, writing, Ledger, file, block, form, Request, asks, Fate, denied, granted, Sought, nowhere, slot, later, onSought, seek, fileNamed, vacantSlot, activity, busy, onBlock, onFile, onFree, putInto, withLast, withNew, withMark, withName, newFile, attributes, loaded, taken, transferred, openedToRead, openedToWrite, shutBlock, rewound, directoryOpened, shownNext, fetched, deleted, renamed, performed, called, ended, edits, fate, reply, gives, after, secsOf}
-use Rattle.demands.specs.Diskette.{formsFrom, ledgerOf}
+use Rattle.demands.specs.Ledger.{Call, setting, extending, asking, blockOf, File, noFile, entryOf, Block, closed, listing, reading, writing, Ledger, file, block, fcb, Request, asks, Fate, denied, granted, Sought, nowhere, slot, later, onSought, seek, fileNamed, vacantSlot, activity, busy, setBlock, setFile, setFree, putInto, withLast, withNew, withMark, withName, newFile, attributes, loaded, taken, transferred, openedToRead, openedToWrite, shutBlock, rewound, directoryOpened, shownNext, fetched, deleted, renamed, performed, called, ended, edits, fate, reply, gives, after, secsOf}
+use Rattle.demands.specs.Diskette.{fcbsFrom, ledgerOf}
 use Rattle.demands.specs.Service.{Service, Machine, Entry, answers, gave, next as after-call, entry, run, log}
 use Rattle.demands.specs.History.{noted, then, history, scenes, Told, pending, asShown, shownFrom, shown, content, filesOn}
-use Rattle.demands.specs.Demands.{Start, lastOf, perOf, begun, Demand3}
+use Rattle.demands.specs.Demands.{Start, lastTrackOf, perTrackOf, begun, Demand3}
 use Rattle.met.specs.Relation.{Agrees}
 use Rattle.met.specs.Calls.{extension-length}
 use Rattle.met.specs.Runs.{start-shape, start-fine}
@@ -97,8 +97,8 @@ pub record Alike (M S : ℕ) (a a′ : Ledger) : Type 0 where
   pub files : (s : ℕ) → LikeFile M S (file a s) (file a′ s)
   pub long : (s : ℕ) → s < length (a .slots) → Long (file a s) (file a′ s)
   pub blocks : a .blocks ≡ a′ .blocks
-  pub number : length (a .forms) ≡ length (a′ .forms)
-  pub forms : (n : ℕ) → LikeForm M S (form a n) (form a′ n)
+  pub number : length (a .fcbs) ≡ length (a′ .fcbs)
+  pub fcbs : (n : ℕ) → LikeForm M S (fcb a n) (fcb a′ n)
 
 -- ---- lists, place by place
 
@@ -421,7 +421,7 @@ long-made o o′ nm date h k = record { name = h; mode = refl; ends = refl; ends
 -- ---- changes of ledgers
 
 module _ (M S : ℕ) (a a′ : Ledger) (r : Alike M S a a′) where
-  alike-block : (n : ℕ) (b b′ : Block) → b ≡ b′ → Alike M S (onBlock a n b) (onBlock a′ n b′)
+  alike-block : (n : ℕ) (b b′ : Block) → b ≡ b′ → Alike M S (setBlock a n b) (setBlock a′ n b′)
   alike-block n b b′ e = record {
     free = r .free;
     frees = r .frees;
@@ -431,12 +431,12 @@ module _ (M S : ℕ) (a a′ : Ledger) (r : Alike M S a a′) where
     long = r .long;
     blocks = λ i. set (r .blocks i) n (e i);
     number = r .number;
-    forms = r .forms;
+    fcbs = r .fcbs;
   }
 
   alike-free : (ks ks′ : List ℕ) (vs vs′ : List (List ℕ)) (s : ℕ) (f f′ : File) (n : ℕ) (b b′ : Block) → length ks ≡ length ks′ → Each (InData M S) ks
       → Each (InData M S) ks′ → LikeFile M S f f′ → (s < length (a .slots) → Long f f′) → b ≡ b′
-      → Alike M S (onFree a ks vs s f n b) (onFree a′ ks′ vs′ s f′ n b′)
+      → Alike M S (setFree a ks vs s f n b) (setFree a′ ks′ vs′ s f′ n b′)
   alike-free ks ks′ vs vs′ s f f′ n b b′ c d d′ l g e = record {
     free = c;
     frees = d;
@@ -447,11 +447,11 @@ module _ (M S : ℕ) (a a′ : Ledger) (r : Alike M S a a′) where
         (omega (arith, length-set (a .slots) s f));
     blocks = λ i. set (r .blocks i) n (e i);
     number = r .number;
-    forms = r .forms;
+    fcbs = r .fcbs;
   }
 
   alike-file : (s : ℕ) (f f′ : File) (n : ℕ) (b b′ : Block) → LikeFile M S f f′ → (s < length (a .slots) → Long f f′) → b ≡ b′
-      → Alike M S (onFile a s f n b) (onFile a′ s f′ n b′)
+      → Alike M S (setFile a s f n b) (setFile a′ s f′ n b′)
   alike-file s f f′ n b b′ l g e = alike-free (a .free) (a′ .free) (a .spare) (a′ .spare) s f f′ n b b′ (r .free) (r .frees) (r .frees′) l g e
 
   alike-puts : (n : ℕ) (ps ps′ : List Put) → LikePuts M S ps ps′ → Alike M S (putInto a n ps) (putInto a′ n ps′)
@@ -463,9 +463,9 @@ module _ (M S : ℕ) (a a′ : Ledger) (r : Alike M S a a′) where
     files = r .files;
     long = r .long;
     blocks = r .blocks;
-    number = length-set (a .forms) n (puts (form a n) 0 ps) ∙ r .number ∙ sym (length-set (a′ .forms) n (puts (form a′ n) 0 ps′));
-    forms = at-set (λ (t : ℕ). LikeForm M S) [] (a .forms) (a′ .forms) (r .number) (r .forms) n (puts (form a n) 0 ps) (puts (form a′ n) 0 ps′)
-        (puts-alike M S p (r .forms n));
+    number = length-set (a .fcbs) n (puts (fcb a n) 0 ps) ∙ r .number ∙ sym (length-set (a′ .fcbs) n (puts (fcb a′ n) 0 ps′));
+    fcbs = at-set (λ (t : ℕ). LikeForm M S) [] (a .fcbs) (a′ .fcbs) (r .number) (r .fcbs) n (puts (fcb a n) 0 ps) (puts (fcb a′ n) 0 ps′)
+        (puts-alike M S p (r .fcbs n));
   }
 
   entry-alike : (s : ℕ) → Pieces M S 4 (entryOf (file a s)) (entryOf (file a′ s))
@@ -768,9 +768,9 @@ module _ (M S : ℕ) (z : Shape M S) (a a′ : Ledger) (r : Alike M S a a′) wh
 
   asks-alike : (n b : ℕ) → LikeFate M S (called M S a n (asks a n b)) (called M S a′ n (asks a′ n b))
   asks-alike n b =
-      let l = r .forms n in
-      let m = form a n in
-      let m′ = form a′ n in
+      let l = r .fcbs n in
+      let m = fcb a n in
+      let m′ = fcb a′ n in
       let c = low-read M S m m′ l 0 (omega arith) in
       let d = low-read M S m m′ l 3 (omega arith) in
       let nm = name-read M S m m′ l in
@@ -785,12 +785,12 @@ module _ (M S : ℕ) (z : Shape M S) (a a′ : Ledger) (r : Alike M S a a′) wh
   unfolding fate
   fate-alike (setting n i v) h =
       like-pick M S (ltb n 8) _ _ _ _ _ refl
-      (λ _. edits-alike (presetIn (form a n) 0 i v) (presetIn (form a′ n) 0 i v) (preset-read M S (form a n) (form a′ n) (r .forms n) i v)
-      (preset-sames M S (form a n) i v h)) (refused refl)
+      (λ _. edits-alike (presetIn (fcb a n) 0 i v) (presetIn (fcb a′ n) 0 i v) (preset-read M S (fcb a n) (fcb a′ n) (r .fcbs n) i v)
+      (preset-sames M S (fcb a n) i v h)) (refused refl)
   fate-alike (extending n c) h =
       like-pick M S (ltb n 8) _ _ _ _ _ refl
-      (λ _. edits-alike (extensionIn (form a n) 0 c) (extensionIn (form a′ n) 0 c) (extension-read M S (form a n) (form a′ n) (r .forms n) c)
-      (extension-sames M S (form a n) c)) (refused refl)
+      (λ _. edits-alike (extensionIn (fcb a n) 0 c) (extensionIn (fcb a′ n) 0 c) (extension-read M S (fcb a n) (fcb a′ n) (r .fcbs n) c)
+      (extension-sames M S (fcb a n) c)) (refused refl)
   fate-alike (asking n b) h = like-pick M S (ltb n 8) _ _ _ _ _ refl (λ _. like-ended M S (asks-alike n b)) (refused refl)
 
   noted-alike : (c : Call) (e : ℕ) → Alike M S (noted a c e) (noted a′ c e)
@@ -887,16 +887,16 @@ sited M S ds img tab a r = record {
 
 -- of the same shape, as many free sectors, the same slots, the same table of bytes
 pub record Twins (x x′ : Machine) : Type 0 where
-  pub tracks : lastOf x ≡ lastOf x′
-  pub sectors : perOf x ≡ perOf x′
+  pub tracks : lastTrackOf x ≡ lastTrackOf x′
+  pub sectors : perTrackOf x ≡ perTrackOf x′
   pub free : length (begun x .free) ≡ length (begun x′ .free)
   pub count : length (begun x .slots) ≡ length (begun x′ .slots)
   pub files : (s : ℕ) → s < length (begun x .slots) → Twin (file (begun x) s) (file (begun x′) s)
   pub table : x .tab ≡ x′ .tab
   pub bytes : Small (x .tab)
 
-small-forms : (tab : List ℕ) → Small tab → (f c n : ℕ) → Small (getD (formsFrom tab f c) n [])
-unfolding formsFrom
+small-forms : (tab : List ℕ) → Small tab → (f c n : ℕ) → Small (getD (fcbsFrom tab f c) n [])
+unfolding fcbsFrom
 small-forms tab h f zero n = small-nil
 small-forms tab h f (suc c) zero = small-part tab f 320 h
 small-forms tab h f (suc c) (suc n) = small-forms tab h (f + 320) c n
@@ -905,8 +905,8 @@ form-self : (M S : ℕ) (m : List ℕ) → Small m → LikeForm M S m m
 form-self M S m h = record { long = refl; bytes = λ i. same refl (λ e. h .at i) }
 
 sited-alike : (M S : ℕ) (a a′ : Ledger) → Sited M S a → Sited M S a′ → length (a .free) ≡ length (a′ .free) → length (a .slots) ≡ length (a′ .slots)
-    → ((s : ℕ) → s < length (a .slots) → Twin (file a s) (file a′ s)) → a .blocks ≡ a′ .blocks → a .forms ≡ a′ .forms
-    → ((n : ℕ) → Small (form a n)) → Alike M S a a′
+    → ((s : ℕ) → s < length (a .slots) → Twin (file a s) (file a′ s)) → a .blocks ≡ a′ .blocks → a .fcbs ≡ a′ .fcbs
+    → ((n : ℕ) → Small (fcb a n)) → Alike M S a a′
 sited-alike M S a a′ g g′ fr c t b e sm = record {
   free = fr;
   frees = g .frees;
@@ -925,24 +925,24 @@ sited-alike M S a a′ g g′ fr c t b e sm = record {
       record { name = l .name; mode = l .mode; ends = l .ends; ends′ = g′ .long s (omega arith) .ends; date = l .date };
   blocks = b;
   number = ap length e;
-  forms = λ n. subst (λ (m : List ℕ). LikeForm M S (form a n) m) (ap (λ (l : List (List ℕ)). getD l n []) e) (form-self M S (form a n) (sm n));
+  fcbs = λ n. subst (λ (m : List ℕ). LikeForm M S (fcb a n) m) (ap (λ (l : List (List ℕ)). getD l n []) e) (form-self M S (fcb a n) (sm n));
 }
 
 module _ (x x′ : Machine) (s : Start x) (s′ : Start x′) (t : Twins x x′) where
   abbrev M : ℕ
-  M = lastOf x
+  M = lastTrackOf x
 
   abbrev S : ℕ
-  S = perOf x
+  S = perTrackOf x
 
   -- their ledgers are alike
   pub starts-alike : Alike M S (begun x) (begun x′)
   unfolding ledgerOf
   starts-alike =
-      let g′ = sited (lastOf x′) (perOf x′) _ (x′ .img) (x′ .tab) (begun x′) (start-fine x′ s′ .agrees) in
+      let g′ = sited (lastTrackOf x′) (perTrackOf x′) _ (x′ .img) (x′ .tab) (begun x′) (start-fine x′ s′ .agrees) in
       sited-alike M S (begun x) (begun x′) (sited M S _ (x .img) (x .tab) (begun x) (start-fine x s .agrees))
-      (subst (λ (m : ℕ). Sited m S (begun x′)) (sym (t .tracks)) (subst (λ (p : ℕ). Sited (lastOf x′) p (begun x′)) (sym (t .sectors)) g′)) (t .free) (t .count) (t .files) refl
-      (ap (λ (m : List ℕ). formsFrom m 0 8) (t .table)) (λ n. small-forms (x .tab) (t .bytes) 0 8 n)
+      (subst (λ (m : ℕ). Sited m S (begun x′)) (sym (t .tracks)) (subst (λ (p : ℕ). Sited (lastTrackOf x′) p (begun x′)) (sym (t .sectors)) g′)) (t .free) (t .count) (t .files) refl
+      (ap (λ (m : List ℕ). fcbsFrom m 0 8) (t .table)) (λ n. small-forms (x .tab) (t .bytes) 0 8 n)
 
   -- any service that meets demand 3 answers every list of calls alike on both, with the same bytes, and leaves the same files
   module _ (σ : Service) (d : Demand3 σ) (cs : List Call) (h : Each Byte cs) where
@@ -950,9 +950,9 @@ module _ (x x′ : Machine) (s : Start x) (s′ : Start x′) (t : Twins x x′)
     twins-log =
         log-only M S (start-shape x s) σ cs h x x′ (begun x) (begun x′) starts-alike (d x s cs .answered)
         (subst (λ (m : ℕ). Told m S (scenes m S (begun x′) (log σ x′ cs))) (sym (t .tracks))
-        (subst (λ (p : ℕ). Told (lastOf x′) p (scenes (lastOf x′) p (begun x′) (log σ x′ cs))) (sym (t .sectors)) (d x′ s′ cs .answered)))
+        (subst (λ (p : ℕ). Told (lastTrackOf x′) p (scenes (lastTrackOf x′) p (begun x′) (log σ x′ cs))) (sym (t .sectors)) (d x′ s′ cs .answered)))
 
-    pub twins-files : filesOn (perOf x) (run σ x cs .img) (run σ x cs .tab) ≡ filesOn (perOf x′) (run σ x′ cs .img) (run σ x′ cs .tab)
+    pub twins-files : filesOn (perTrackOf x) (run σ x cs .img) (run σ x cs .tab) ≡ filesOn (perTrackOf x′) (run σ x′ cs .img) (run σ x′ cs .tab)
     twins-files =
         d x s cs .files
         ∙ shown-only M S (start-shape x s) (log σ x cs) (bytes-log σ cs x h) (begun x) (begun x′) starts-alike

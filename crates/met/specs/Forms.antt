@@ -1,4 +1,4 @@
--- The bytes of the blocks: the table is what the ledger's forms say, and stays so where a call puts bytes into its block.
+-- The bytes of the blocks: the table is what the ledger's fcbs say, and stays so where a call puts bytes into its block.
 use mathlib.Core.Path.{_≡_, refl, sym, ap, ap₂, _∙_, subst}
 use mathlib.Core.List.{List, [], _∷_, _++_}
 use Prim.Native.Nat.{ℕ, zero, suc, _+_, _-_, _*_, _≤_, _<_}
@@ -14,7 +14,7 @@ use Rattle.laws.specs.Each.{Each}
 use Rattle.laws.specs.Stores.{Within, puts-other}
 use Rattle.chains.specs.Tally.{flat}
 use Rattle.demands.specs.Ledger.{request}
-use Rattle.demands.specs.Diskette.{formsFrom}
+use Rattle.demands.specs.Diskette.{fcbsFrom}
 use Rattle.met.specs.Searches.{part-part}
 use Rattle.met.specs.Picture.{part-join}
 
@@ -82,18 +82,18 @@ pub record Formed (tab : List ℕ) (fs : List (List ℕ)) : Type 0 where
   pub count : length fs ≡ 8
   pub is : (n : ℕ) → n < 8 → part tab (320 * n) 320 ≡ getD fs n []
 
-length-forms : (tab : List ℕ) (f c : ℕ) → length (formsFrom tab f c) ≡ c
-unfolding formsFrom
+length-forms : (tab : List ℕ) (f c : ℕ) → length (fcbsFrom tab f c) ≡ c
+unfolding fcbsFrom
 length-forms tab f zero = refl
 length-forms tab f (suc c) = ap suc (length-forms tab (f + 320) c)
 
-forms-at : (tab : List ℕ) (f c n : ℕ) → n < c → part tab (f + 320 * n) 320 ≡ getD (formsFrom tab f c) n []
-unfolding formsFrom
+forms-at : (tab : List ℕ) (f c n : ℕ) → n < c → part tab (f + 320 * n) 320 ≡ getD (fcbsFrom tab f c) n []
+unfolding fcbsFrom
 forms-at tab f zero n h = absurd (omega arith)
 forms-at tab f (suc c) zero h = ap (λ (x : ℕ). part tab x 320) (omega arith)
 forms-at tab f (suc c) (suc n) h = ap (λ (x : ℕ). part tab x 320) (omega arith) ∙ forms-at tab (f + 320) c n (omega arith)
 
-pub formed-start : (tab : List ℕ) → Formed tab (formsFrom tab 0 8)
+pub formed-start : (tab : List ℕ) → Formed tab (fcbsFrom tab 0 8)
 formed-start tab = record { count = length-forms tab 0 8; is = λ n h. ap (λ (x : ℕ). part tab x 320) (omega arith) ∙ forms-at tab 0 8 n h }
 
 flat-parts : (tab : List ℕ) (fs : List (List ℕ)) (f : ℕ) → ((n : ℕ) → n < length fs → part tab (f + 320 * n) 320 ≡ getD fs n [])

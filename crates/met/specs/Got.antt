@@ -19,7 +19,7 @@ use Rattle.laws.specs.Addresses.{Shape}
 use Rattle.chains.specs.Addresses.{absurd-bool}
 use Rattle.chains.specs.Chain.{contents}
 use Rattle.chains.specs.Directory.{Listing}
-use Rattle.demands.specs.Ledger.{Call, setting, extending, asking, File, noFile, Block, closed, reading, Ledger, Request, asks, Fate, denied, granted, reply, gives, activity, block, file, onBlock, loaded, transferred, rewound, performed, called}
+use Rattle.demands.specs.Ledger.{Call, setting, extending, asking, File, noFile, Block, closed, reading, Ledger, Request, asks, Fate, denied, granted, reply, gives, activity, block, file, setBlock, loaded, transferred, rewound, performed, called}
 use Rattle.met.specs.Relation.{opens, Reading, Keeps}
 use Rattle.demands.specs.Service.{flex, Machine, answers, gave, next, entry, log}
 use Rattle.demands.specs.History.{then, scenes, calls, concat, had, Only, readTo, Reads}
@@ -90,10 +90,10 @@ module _ (M S : ℕ) (z : Shape M S) (ds : List ℕ) (d : Listing S ds) where
       where
         -- at the end of a sector
         next-sector : p ≡ 252 * t .j → Dec (t .j < length ((file a s) .secs))
-            → Fetched a n s p c (pick (ltb (t .j) (length ((file a s) .secs))) (granted (getD (getD ((file a s) .body) (t .j) []) 0 0) (onBlock a n (reading s (suc (t .j)) 5)) (loaded S (file a s) (t .j))) (denied 8))
+            → Fetched a n s p c (pick (ltb (t .j) (length ((file a s) .secs))) (granted (getD (getD ((file a s) .body) (t .j) []) 0 0) (setBlock a n (reading s (suc (t .j)) 5)) (loaded S (file a s) (t .j))) (denied 8))
         next-sector pp (yes h) =
             rw (lt-ltb (t .j) (length ((file a s) .secs)) h)
-            (byte (getD (getD ((file a s) .body) (t .j) []) 0 0) (onBlock a n (reading s (suc (t .j)) 5)) _ (omega (arith, len, pp, h)) (byte-at (t .j) 0 p h (omega arith) (omega (arith, pp)))
+            (byte (getD (getD ((file a s) .body) (t .j) []) 0 0) (setBlock a n (reading s (suc (t .j)) 5)) _ (omega (arith, len, pp, h)) (byte-at (t .j) 0 p h (omega arith) (omega (arith, pp)))
             (record { j = suc (t .j); i = 5; reader = set-b (reading s (suc (t .j)) 5); pos = omega (arith, pp); bytes = t .bytes }))
         next-sector pp (no h) = rw (le-ltb (t .j) (length ((file a s) .secs)) (omega arith)) (over (omega (arith, len, pp, h)))
 
@@ -111,7 +111,7 @@ module _ (M S : ℕ) (z : Shape M S) (ds : List ℕ) (d : Listing S ds) where
             let ld = w .loaded in
             let pp : p ≡ 252 * (t .j - 1) + (t .i - 4) = t .pos ∙ (rw (ne-eqb (t .i) 0 e)) in
             rw (ne-eqb (t .i) 0 e)
-            (byte (getD (getD ((file a s) .body) (t .j - 1) []) (t .i - 4) 0) (onBlock a n (reading s (t .j) ((t .i + 1) % 256))) _ (omega (arith, len, pp, wi, ld))
+            (byte (getD (getD ((file a s) .body) (t .j - 1) []) (t .i - 4) 0) (setBlock a n (reading s (t .j) ((t .i + 1) % 256))) _ (omega (arith, len, pp, wi, ld))
             (byte-at (t .j - 1) (t .i - 4) p (omega (arith, wi, ld)) (omega (arith, wi)) (omega (arith, pp)))
             (record { j = t .j; i = (t .i + 1) % 256; reader = set-b (reading s (t .j) ((t .i + 1) % 256)); pos = turn-pos (ℕ-discrete (t .i) 255) pp wi; bytes = t .bytes }))
 
@@ -192,8 +192,8 @@ module _ (M S : ℕ) (z : Shape M S) (ds : List ℕ) (d : Listing S ds) where
         let an : answers flex x (asking n b) ≡ 0 = st .ans ∙ ap reply φ in
         let lk = subst (λ (ψ : Fate). Likewise (ledgerBy a ψ) (then M S a (entry flex x (asking n b)))) φ (likewise-asked M S x a n b st) in
         rw (eq-eqb n n refl, k) (
-          at-like (onBlock a n (reading s 0 0)) (then M S a (entry flex x (asking n b))) lk n s 0 l
-              (at-start (onBlock a n (reading s 0 0)) n s l (getD-set-same (a .blocks) n (reading s 0 0) closed (omega (arith, g .agrees .nb))) (t .bytes)),
+          at-like (setBlock a n (reading s 0 0)) (then M S a (entry flex x (asking n b))) lk n s 0 l
+              (at-start (setBlock a n (reading s 0 0)) n s l (getD-set-same (a .blocks) n (reading s 0 0) closed (omega (arith, g .agrees .nb))) (t .bytes)),
           (λ r. absurd-bool r refl),
           λ r. an,
         )

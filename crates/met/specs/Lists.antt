@@ -21,7 +21,7 @@ use Rattle.laws.specs.Addresses.{Shape}
 use Rattle.chains.specs.Chain.{first-getD}
 use Rattle.chains.specs.Directory.{Listing, directory-is, slot-at, length-slots, spot, spot-sector, placed-spot, behind}
 use Rattle.laws.specs.Stores.{puts-off, puts-at}
-use Rattle.demands.specs.Ledger.{Block, closed, listing, Ledger, Request, Fate, denied, granted, onBlock, entryOf, directoryOpened, shownNext, fetched, request, file}
+use Rattle.demands.specs.Ledger.{Block, closed, listing, Ledger, Request, Fate, denied, granted, setBlock, entryOf, directoryOpened, shownNext, fetched, request, file}
 use Rattle.met.specs.Relation.{tb, opens, Listed, Keeps, Agrees, tp-same}
 use Rattle.met.specs.Quiet.{turned, shut-block, idle-quiet}
 use Rattle.met.specs.Meets.{Meets, meets-unless}
@@ -52,7 +52,7 @@ module _ (M S : ℕ) (z : Shape M S) (ds : List ℕ) (d : Listing S ds) (img tab
 
   -- ---- 7: slot p is shown
   abbrev showing : ℕ → Fate
-  showing p = granted 0 (onBlock a n (listing (suc p))) (put 47 (placeOf ((file a p) .at)) ∷ put 4 (entryOf (file a p)) ∷ [])
+  showing p = granted 0 (setBlock a n (listing (suc p))) (put 47 (placeOf ((file a p) .at)) ∷ put 4 (entryOf (file a p)) ∷ [])
 
   module _ (p : ℕ) (act : tb tab n 2 ≡ 16) (hp : p < length (slotsOf ds)) where
     abbrev o : ℕ

@@ -17,7 +17,7 @@ use Rattle.chains.specs.Chain.{Chain, pieces, pieces-same, chain-same}
 use Rattle.chains.specs.Directory.{Listing, Spot, spot}
 use Rattle.laws.specs.Stores.{stored-off, stored-at}
 use Rattle.chains.specs.Frame.{Frame, framed, in-slot}
-use Rattle.demands.specs.Ledger.{File, noFile, Block, closed, Ledger, onFile, withMark}
+use Rattle.demands.specs.Ledger.{File, noFile, Block, closed, Ledger, setFile, withMark}
 use Rattle.met.specs.Relation.{opens, writes, Holds, Keeps, Agrees, Turn, step}
 use Rattle.met.specs.Sectors.{free-data}
 use Rattle.met.specs.Searches.{marked-dead}
@@ -98,10 +98,10 @@ module _ (M S : ℕ) (z : Shape M S) (ds : List ℕ) (d : Listing S ds) (img tab
   pub mark-step : (n : ℕ) (tab′ : List ℕ) (b : Block) → n < 8 → f .secs ≡ [] → Turn tab tab′ n → opens b ≡ 0 → writes b ≡ 0
       → Keeps S (slotsOf ds) tab′ n (set (a .slots) s (withMark f)) b
       → ((n′ : ℕ) → n′ < 8 → n′ ≢ n → opens (getD (a .blocks) n′ closed) ≢ suc s)
-      → Agrees M S ds (stored img (store (o / 256) (o % 256) (one 255) ∷ [])) tab′ (onFile a s (withMark f) n b)
+      → Agrees M S ds (stored img (store (o / 256) (o % 256) (one 255) ∷ [])) tab′ (setFile a s (withMark f) n b)
   unfolding one
   mark-step n tab′ b hn em t ob wb k q =
-      subst (λ (x : ℕ). Agrees M S ds (stored img (store (o / 256) x (255 ∷ []) ∷ [])) tab′ (onFile a s (withMark f) n b)) (omega arith)
+      subst (λ (x : ℕ). Agrees M S ds (stored img (store (o / 256) x (255 ∷ []) ∷ [])) tab′ (setFile a s (withMark f) n b)) (omega arith)
       (step M S z ds d img tab a r (stored img (store (o / 256) (o % 256 + 0) (255 ∷ []) ∷ [])) tab′ [] (a .free) (a .spare) n s (withMark f) b hn hs
       (slot-frame 0 (255 ∷ []) (omega arith)) t (slot-free 0 (255 ∷ []) (omega arith)) (slot-spare 0 (255 ∷ []) (omega arith))
       (mark-holds (stored img (store (o / 256) (o % 256 + 0) (255 ∷ []) ∷ [])) (slot-at 0 (255 ∷ []) (omega arith) 0 o (omega arith) (omega arith))

@@ -25,7 +25,7 @@ use Rattle.chains.specs.Chain.{first-getD}
 use Rattle.chains.specs.Directory.{Listing}
 use Rattle.laws.specs.Each.{Each}
 use Rattle.laws.specs.Stores.{Within, Piece, begins, bytesOf, none, inBlock, Off, puts-off, puts-at}
-use Rattle.demands.specs.Ledger.{File, noFile, closed, reading, writing, Ledger, denied, granted, Sought, nowhere, slot, onSought, fileNamed, vacantSlot, busy, onBlock, onFile, newFile, entryOf, openedToRead, openedToWrite, request}
+use Rattle.demands.specs.Ledger.{File, noFile, closed, reading, writing, Ledger, denied, granted, Sought, nowhere, slot, onSought, fileNamed, vacantSlot, busy, setBlock, setFile, newFile, entryOf, openedToRead, openedToWrite, request}
 use Rattle.met.specs.Relation.{tb, t2, tp, opens, Holds, Reading, Writing, Agrees, Turn, step, step-block}
 use Rattle.met.specs.Quiet.{turned, writes-opens}
 use Rattle.met.specs.Meets.{Meets, meets-unless, meets-when}
@@ -120,7 +120,7 @@ module _ (M S : ℕ) (z : Shape M S) (ds : List ℕ) (d : Listing S ds) (img tab
     le = length-part img o 24
 
     open-read : busy false s (a .blocks) 8 ≡ false
-        → Agrees M S ds img (puts tab (320 * n) (ps M S z ds d img tab a r n hn 1 o es le)) (onBlock a n (reading s 0 0))
+        → Agrees M S ds img (puts tab (320 * n) (ps M S z ds d img tab a r n hn 1 o es le)) (setBlock a n (reading s 0 0))
     open-read free =
         step-block M S z ds d img tab a r (tab′ M S z ds d img tab a r n hn 1 o es le) n (reading s 0 0) hn (open-turn M S z ds d img tab a r n hn 1 o es le) now (λ n′ h e w. absurd (omega arith))
         (λ n′ h e w. not-written s (getD (a .blocks) n′ closed) (not-busy false s (a .blocks) 8 n′ free h))
@@ -151,7 +151,7 @@ module _ (M S : ℕ) (z : Shape M S) (ds : List ℕ) (d : Listing S ds) (img tab
     where
       go : (x : Sought) → fileNamed (part tab (320 * n + 4) 11) (a .slots) ≡ x
           → Meets M S ds img tab n (onSlot (lookedUp (slotsOf ds) x) 5 4 (λ slot. pick (inUse false tab (placeOf slot)) (refuse 2) (done 0 [] (opened 1 slot (part img slot 24)))))
-          (onSought x (denied 4) (λ s. pick (busy false s (a .blocks) 8) (denied 2) (granted 0 (onBlock a n (reading s 0 0)) (opened 1 ((getD (a .slots) s noFile) .at) (entryOf (getD (a .slots) s noFile))))))
+          (onSought x (denied 4) (λ s. pick (busy false s (a .blocks) 8) (denied 2) (granted 0 (setBlock a n (reading s 0 0)) (opened 1 ((getD (a .slots) s noFile) .at) (entryOf (getD (a .slots) s noFile))))))
       go nowhere e = (refl, omega arith)
       go (slot s) e =
           let q = seek-found (λ x. named x (part tab (320 * n + 4) 11) 0) (a .slots) s e in
@@ -260,10 +260,10 @@ module _ (M S : ℕ) (z : Shape M S) (ds : List ℕ) (d : Listing S ds) (img tab
           buffer = λ q. absurd (omega arith);
         }
 
-    open-write : Agrees M S ds (stored img (store (p / 256) (p % 256) ne ∷ [])) (puts tab (320 * n) (ps M S z ds d img tab a r n hn 2 p ne l24)) (onFile a s made n (writing s []))
+    open-write : Agrees M S ds (stored img (store (p / 256) (p % 256) ne ∷ [])) (puts tab (320 * n) (ps M S z ds d img tab a r n hn 2 p ne l24)) (setFile a s made n (writing s []))
     open-write =
         let shut : (n′ : ℕ) → n′ < 8 → n′ ≢ n → opens (getD (a .blocks) n′ closed) ≢ suc s = λ n′ h e. dead-shut M S z ds d img tab a r n′ h s dead in
-        subst (λ (x : ℕ). Agrees M S ds (stored img (store (p / 256) x ne ∷ [])) (tab′ M S z ds d img tab a r n hn 2 p ne l24) (onFile a s made n (writing s []))) (omega arith)
+        subst (λ (x : ℕ). Agrees M S ds (stored img (store (p / 256) x ne ∷ [])) (tab′ M S z ds d img tab a r n hn 2 p ne l24) (setFile a s made n (writing s []))) (omega arith)
         (step M S z ds d img tab a r img′ (tab′ M S z ds d img tab a r n hn 2 p ne l24) [] (a .free) (a .spare) n s made (writing s []) hn hs
         (slot-frame M S z ds d img tab a r s hs 0 ne l24′) (open-turn M S z ds d img tab a r n hn 2 p ne l24) (slot-free M S z ds d img tab a r s hs 0 ne l24′) (slot-spare M S z ds d img tab a r s hs 0 ne l24′) holds-made
         (subst (λ (g : File). Writing S (slotsOf ds) (tab′ M S z ds d img tab a r n hn 2 p ne l24) n g s []) (sym (getD-set-same (a .slots) s made noFile (omega (arith, r .ns, hs)))) keeps-made)
@@ -285,7 +285,7 @@ module _ (M S : ℕ) (z : Shape M S) (ds : List ℕ) (d : Listing S ds) (img tab
     where
       go : live nm 0 ≡ true → (x y : Sought) → vacantSlot (a .slots) ≡ y
           → Meets M S ds img tab n (onNone (lookedUp (slotsOf ds) x) 5 3 (onSlot (lookedUp (slotsOf ds) y) 5 6 (λ slot. done 0 (store (slot / 256) (slot % 256) (newEntry tab (320 * n)) ∷ []) (opened 2 slot (newEntry tab (320 * n))))))
-          (onSought x (onSought y (denied 6) (λ s. granted 0 (onFile a s (newFile ((getD (a .slots) s noFile) .at) nm date) n (writing s [])) (opened 2 ((getD (a .slots) s noFile) .at) (entryOf (newFile ((getD (a .slots) s noFile) .at) nm date))))) (λ s. denied 3))
+          (onSought x (onSought y (denied 6) (λ s. granted 0 (setFile a s (newFile ((getD (a .slots) s noFile) .at) nm date) n (writing s [])) (opened 2 ((getD (a .slots) s noFile) .at) (entryOf (newFile ((getD (a .slots) s noFile) .at) nm date))))) (λ s. denied 3))
       go v (slot t) y e = (refl, omega arith)
       go v nowhere nowhere e = (refl, omega arith)
       go v nowhere (slot s) e =

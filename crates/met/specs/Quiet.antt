@@ -14,7 +14,7 @@ use Rattle.laws.specs.Addresses.{Shape}
 use Rattle.chains.specs.Directory.{Listing}
 use Rattle.laws.specs.Stores.{length-puts, Within, puts-off, puts-other}
 use Rattle.laws.specs.Each.{Each}
-use Rattle.demands.specs.Ledger.{File, Block, closed, listing, reading, writing, Ledger, activity, onBlock}
+use Rattle.demands.specs.Ledger.{File, Block, closed, listing, reading, writing, Ledger, activity, setBlock}
 use Rattle.met.specs.Relation.{tb, tp, opens, writes, Keeps, Agrees, Rest, keeps-same, Turn, step-block}
 
 -- stores inside of block n leave the others
@@ -58,18 +58,18 @@ module _ (M S : ℕ) (z : Shape M S) (ds : List ℕ) (d : Listing S ds) (img tab
 
   pub on-block : (tab′ : List ℕ) (b : Block) → Turn tab tab′ n → opens b ≡ opens old → writes b ≡ writes old
       → Keeps S (slotsOf ds) tab′ n (a .slots) b
-      → Agrees M S ds img tab′ (onBlock a n b)
+      → Agrees M S ds img tab′ (setBlock a n b)
   on-block tab′ b t o w k = step-block M S z ds d img tab a r tab′ n b hn t k (alone1 b o w) (alone2 b o)
 
   -- a block that has nothing open afterwards
   pub shut-block : (tab′ : List ℕ) (b : Block) → Turn tab tab′ n → opens b ≡ 0 → writes b ≡ 0 → Keeps S (slotsOf ds) tab′ n (a .slots) b
-      → Agrees M S ds img tab′ (onBlock a n b)
+      → Agrees M S ds img tab′ (setBlock a n b)
   shut-block tab′ b t o w k =
       step-block M S z ds d img tab a r tab′ n b hn t k (λ n′ h e u. absurd (omega (arith, u, w))) (λ n′ h e u. absurd (omega (arith, u, o)))
 
   as-it-was : (tab′ : List ℕ) → Turn tab tab′ n → Keeps S (slotsOf ds) tab′ n (a .slots) old → Agrees M S ds img tab′ a
   as-it-was tab′ t k =
-      subst (λ (bs : List Block). Agrees M S ds img tab′ (record { base = a .base; free = a .free; spare = a .spare; slots = a .slots; blocks = bs; forms = a .forms })) (set-getD (a .blocks) n closed)
+      subst (λ (bs : List Block). Agrees M S ds img tab′ (record { base = a .base; free = a .free; spare = a .spare; slots = a .slots; blocks = bs; fcbs = a .fcbs })) (set-getD (a .blocks) n closed)
       (on-block tab′ old t refl refl k)
 
   -- bytes 0 and 1 alone change: a refusal, a preset of byte 0

@@ -24,7 +24,7 @@ use Rattle.chains.specs.Chain.{tally-getD, seg-at, pieces-at}
 use Rattle.chains.specs.Directory.{Listing}
 use Rattle.laws.specs.Each.{Each}
 use Rattle.laws.specs.Stores.{Within, puts-off, puts-at}
-use Rattle.demands.specs.Ledger.{File, noFile, Block, closed, reading, Ledger, Request, denied, granted, onBlock, loaded, transferred, rewound}
+use Rattle.demands.specs.Ledger.{File, noFile, Block, closed, reading, Ledger, Request, denied, granted, setBlock, loaded, transferred, rewound}
 use Rattle.met.specs.Relation.{tb, t2, opens, writes, Holds, Reading, Keeps, Agrees, t2-same, tp-same, all-low, all-high, slot-le}
 use Rattle.met.specs.Quiet.{turned, on-block}
 use Rattle.met.specs.Meets.{Meets, meets-pick}
@@ -79,7 +79,7 @@ module _ (M S : ℕ) (z : Shape M S) (ds : List ℕ) (d : Listing S ds) (img tab
       buffer = λ q k b. same (68 + k) (omega arith) ∙ w .buffer h k b;
     }
 
-    gave-step : Agrees M S ds img (puts tab (320 * n) gave) (onBlock a n (reading s j ((i + 1) % 256)))
+    gave-step : Agrees M S ds img (puts tab (320 * n) gave) (setBlock a n (reading s j ((i + 1) % 256)))
     gave-step =
         on-block M S z ds d img tab a r n hn (puts tab (320 * n) gave) (reading s j ((i + 1) % 256)) (turned tab n gave (omega (arith, length-one ((i + 1) % 256)))) (ap opens (sym e)) (ap writes (sym e)) gave-now
 
@@ -183,7 +183,7 @@ module _ (M S : ℕ) (z : Shape M S) (ds : List ℕ) (d : Listing S ds) (img tab
         let rec : part img (256 * k + 2) 2 ≡ getD (f .recs) j [] = sym (ap (λ (x : List (List ℕ)). getD x j []) (h .recs) ∙ pieces-at 2 2 img l j jl) in
         ap₂ (λ (x y : List ℕ). put 30 (two (adr S k)) ∷ put 32 x ∷ put 64 y ∷ put 34 (one 5) ∷ []) rec (sector-is M S z ds d img tab a r s (w .slot) (w .alive) j jl)
 
-    load-step : Agrees M S ds img tab′ (onBlock a n (reading s (suc j) 5))
+    load-step : Agrees M S ds img tab′ (setBlock a n (reading s (suc j) 5))
     unfolding two one
     load-step =
         on-block M S z ds d img tab a r n hn tab′ (reading s (suc j) 5) (turned tab n ps load-within) (ap opens (sym e)) (ap writes (sym e)) load-now
@@ -192,14 +192,14 @@ module _ (M S : ℕ) (z : Shape M S) (ds : List ℕ) (d : Listing S ds) (img tab
     load-byte = ap (λ (p : ℕ). getD img p 0) (omega arith) ∙ data252 0 (omega arith)
 
   load-meets : Meets M S ds img tab n (load img M S (adr S (getD l j 0)))
-      (pick (ltb j (length l)) (granted (getD (getD (f .body) j []) 0 0) (onBlock a n (reading s (suc j) 5)) (loaded S f j)) (denied 8))
+      (pick (ltb j (length l)) (granted (getD (getD (f .body) j []) 0 0) (setBlock a n (reading s (suc j) 5)) (loaded S f j)) (denied 8))
   unfolding load loadPuts
   load-meets = go (decLt j (length l))
     where
       go : Dec (j < length l) → Meets M S ds img tab n
           (pick (eqb (adr S (getD l j 0)) 0) (refuse 8)
           (pick (isData M S (adr S (getD l j 0))) (done (byteAt img (256 * index S (adr S (getD l j 0)) + 4)) [] (loadPuts img (adr S (getD l j 0)) (index S (adr S (getD l j 0))))) (refuse 9)))
-          (pick (ltb j (length l)) (granted (getD (getD (f .body) j []) 0 0) (onBlock a n (reading s (suc j) 5)) (loaded S f j)) (denied 8))
+          (pick (ltb j (length l)) (granted (getD (getD (f .body) j []) 0 0) (setBlock a n (reading s (suc j) 5)) (loaded S f j)) (denied 8))
       go (yes jl) =
           rw (
             ne-eqb (adr S (getD l j 0)) 0 (omega (arith, adr-pos M S z (getD l j 0) (k-pos jl) (k-high jl))),

@@ -18,7 +18,7 @@ use Rattle.chains.specs.Addresses.{Sized, adr, room-for}
 use Rattle.chains.specs.Chain.{first, lastOf, Seg, Chain, pieces, contents, seg-same, pieces-same, chain-same}
 use Rattle.chains.specs.Directory.{Listing}
 use Rattle.chains.specs.Frame.{Address, Frame}
-use Rattle.demands.specs.Ledger.{File, noFile, Block, closed, listing, reading, writing, Ledger, secsOf, onBlock, onFree}
+use Rattle.demands.specs.Ledger.{File, noFile, Block, closed, listing, reading, writing, Ledger, secsOf, setBlock, setFree}
 
 -- byte i of block n, and the number of two bytes there
 abbrev pub tb : List ℕ → ℕ → ℕ → ℕ
@@ -261,7 +261,7 @@ module _ (M S : ℕ) (z : Shape M S) (ds : List ℕ) (d : Listing S ds) (img tab
   pub step-block : (tab′ : List ℕ) (n : ℕ) (b : Block) → n < 8 → Turn tab tab′ n → Keeps S (slotsOf ds) tab′ n (a .slots) b
       → ((n′ : ℕ) → n′ < 8 → n′ ≢ n → 1 ≤ writes b → writes b ≢ opens (getD (a .blocks) n′ closed))
       → ((n′ : ℕ) → n′ < 8 → n′ ≢ n → 1 ≤ opens b → writes (getD (a .blocks) n′ closed) ≢ opens b)
-      → Agrees M S ds img tab′ (onBlock a n b)
+      → Agrees M S ds img tab′ (setBlock a n b)
   step-block tab′ n b h t k p q =
       record {
         shaped = r .shaped;
@@ -288,7 +288,7 @@ module _ (M S : ℕ) (z : Shape M S) (ds : List ℕ) (d : Listing S ds) (img tab
       → ((n′ : ℕ) → n′ < 8 → n′ ≢ n → opens (getD (a .blocks) n′ closed) ≢ suc s)
       → ((n′ : ℕ) → n′ < 8 → n′ ≢ n → 1 ≤ writes b → writes b ≢ opens (getD (a .blocks) n′ closed))
       → ((n′ : ℕ) → n′ < 8 → n′ ≢ n → 1 ≤ opens b → writes (getD (a .blocks) n′ closed) ≢ opens b)
-      → Agrees M S ds img′ tab′ (onFree a fr vs s f n b)
+      → Agrees M S ds img′ tab′ (setFree a fr vs s f n b)
   step img′ tab′ ks fr vs n s f b hn hs g t fc sp hf kb inks tal other p q =
       record {
         shaped = record { last = g .shape 550 (omega arith) (omega arith) ∙ r .shaped .last; per = g .shape 551 (omega arith) (omega arith) ∙ r .shaped .per; size = g .len ∙ r .shaped .size };

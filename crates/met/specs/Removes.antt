@@ -29,7 +29,7 @@ use Rattle.laws.specs.Small.{small-two, small-six}
 use Rattle.laws.specs.Each.{Each}
 use Rattle.laws.specs.Stores.{Within, stored-off, stored-at, puts-off}
 use Rattle.chains.specs.Frame.{Frame, framed, Lies, in-record, in-sector, in-slot, of-nothing}
-use Rattle.demands.specs.Ledger.{File, noFile, Block, closed, Ledger, denied, granted, Sought, nowhere, slot, onSought, fileNamed, busy, attributes, onFile, onFree, withMark, withName, joined, entryOf, deleted, renamed, request}
+use Rattle.demands.specs.Ledger.{File, noFile, Block, closed, Ledger, denied, granted, Sought, nowhere, slot, onSought, fileNamed, busy, attributes, setFile, setFree, withMark, withName, joined, entryOf, deleted, renamed, request}
 use Rattle.met.specs.Relation.{t2, opens, Holds, Keeps, Agrees, tp-same, Turn, step, long}
 use Rattle.met.specs.Quiet.{turned, shut-writes, idle-kept}
 use Rattle.met.specs.Meets.{Meets, meets-unless, meets-when}
@@ -169,7 +169,7 @@ module _ (M S : ℕ) (z : Shape M S) (ds : List ℕ) (d : Listing S ds) (img tab
     hang-step : (n : ℕ) (tab′ : List ℕ) (b : Block) → n < 8 → Turn tab tab′ n → opens b ≡ 0
         → Keeps S (slotsOf ds) tab′ n (set (a .slots) s (withMark f)) b
         → ((n′ : ℕ) → n′ < 8 → n′ ≢ n → opens (getD (a .blocks) n′ closed) ≢ suc s)
-        → Agrees M S ds img′ tab′ (onFree a (fr ++ l) (a .spare ++ joined (f .recs) (f .body)) s (withMark f) n b)
+        → Agrees M S ds img′ tab′ (setFree a (fr ++ l) (a .spare ++ joined (f .recs) (f .body)) s (withMark f) n b)
     unfolding six one
     hang-step n tab′ b hn t ob k q =
         step M S z ds d img tab a r img′ tab′ fr (fr ++ l) (a .spare ++ joined (f .recs) (f .body)) n s (withMark f) b hn hs frame t free-now spare-now
@@ -242,12 +242,12 @@ module _ (M S : ℕ) (z : Shape M S) (ds : List ℕ) (d : Listing S ds) (img tab
     e17 : wordAt img (o + 17) ≡ length l
     e17 = ap (wordAt img) (omega arith) ∙ c .size
 
-    remove-meets : Meets M S ds img tab n (remove img M S o) (granted 0 (onFree a (fr ++ l) (a .spare ++ joined (f .recs) (f .body)) s (withMark f) n (getD (a .blocks) n closed)) (put 4 (entryOf (withMark f)) ∷ []))
+    remove-meets : Meets M S ds img tab n (remove img M S o) (granted 0 (setFree a (fr ++ l) (a .spare ++ joined (f .recs) (f .body)) s (withMark f) n (getD (a .blocks) n closed)) (put 4 (entryOf (withMark f)) ∷ []))
     unfolding remove gone mark
     remove-meets = go (ℕ-discrete (length l) 0)
       where
         go : Dec (length l ≡ 0)
-            → Meets M S ds img tab n (remove img M S o) (granted 0 (onFree a (fr ++ l) (a .spare ++ joined (f .recs) (f .body)) s (withMark f) n (getD (a .blocks) n closed)) (put 4 (entryOf (withMark f)) ∷ []))
+            → Meets M S ds img tab n (remove img M S o) (granted 0 (setFree a (fr ++ l) (a .spare ++ joined (f .recs) (f .body)) s (withMark f) n (getD (a .blocks) n closed)) (put 4 (entryOf (withMark f)) ∷ []))
         go (yes p) =
             let q : fr ++ l ≡ fr = ap (λ (x : List ℕ). fr ++ x) (empty l p) ∙ append-nil fr in
             let u : a .spare ++ joined (f .recs) (f .body) ≡ a .spare =
@@ -312,9 +312,9 @@ module _ (M S : ℕ) (z : Shape M S) (ds : List ℕ) (d : Listing S ds) (img tab
             body = h .body ∙ sym (pieces-same 4 252 img img″ l (λ j i t u b. off (256 * j + i) (λ u v. omega (arith, secs-data M S z ds d img tab a r s hs j t .0, ohigh))));
           }
 
-      rename-step : Agrees M S ds (stored img (store (o / 256) (o % 256) nn ∷ [])) tab″ (onFile a s (withName f nn) n (getD (a .blocks) n closed))
+      rename-step : Agrees M S ds (stored img (store (o / 256) (o % 256) nn ∷ [])) tab″ (setFile a s (withName f nn) n (getD (a .blocks) n closed))
       rename-step =
-          subst (λ (x : ℕ). Agrees M S ds (stored img (store (o / 256) x nn ∷ [])) tab″ (onFile a s (withName f nn) n (getD (a .blocks) n closed))) (omega arith)
+          subst (λ (x : ℕ). Agrees M S ds (stored img (store (o / 256) x nn ∷ [])) tab″ (setFile a s (withName f nn) n (getD (a .blocks) n closed))) (omega arith)
           (step M S z ds d img tab a r img″ tab″ [] (a .free) (a .spare) n s (withName f nn) (getD (a .blocks) n closed) hn hs
           (slot-frame M S z ds d img tab a r s hs 0 nn short) (turned tab n qs (omega (arith, ln))) (slot-free M S z ds d img tab a r s hs 0 nn short) (slot-spare M S z ds d img tab a r s hs 0 nn short) named-holds named-kept
           (λ x h. absurd (omega arith)) (λ x. refl) nobody
@@ -343,7 +343,7 @@ module _ (M S : ℕ) (z : Shape M S) (ds : List ℕ) (d : Listing S ds) (img tab
           (pick (deleteProtected (byteAt img (slot + 11))) (refuse 12) (pick (writeProtected (byteAt img (slot + 11))) (refuse 11) (remove img M S slot)))))
           (onSought x (denied 4) (λ s. pick (busy true s (a .blocks) 8) (denied 2)
           (pick (deleteProtected (attributes a s)) (denied 12) (pick (writeProtected (attributes a s)) (denied 11)
-          (granted 0 (onFree a (a .free ++ (getD (a .slots) s noFile) .secs) (a .spare ++ joined ((getD (a .slots) s noFile) .recs) ((getD (a .slots) s noFile) .body)) s (withMark (getD (a .slots) s noFile)) n (getD (a .blocks) n closed))
+          (granted 0 (setFree a (a .free ++ (getD (a .slots) s noFile) .secs) (a .spare ++ joined ((getD (a .slots) s noFile) .recs) ((getD (a .slots) s noFile) .body)) s (withMark (getD (a .slots) s noFile)) n (getD (a .blocks) n closed))
           (put 4 (entryOf (withMark (getD (a .slots) s noFile))) ∷ []))))))
       go nowhere e = (refl, omega arith)
       go (slot s) e =
@@ -370,7 +370,7 @@ module _ (M S : ℕ) (z : Shape M S) (ds : List ℕ) (d : Listing S ds) (img tab
           (onNone (lookedUp (slotsOf ds) y) 5 3 (done 0 (store (slot / 256) (slot % 256) nn ∷ []) (put 4 nn ∷ []))))))
           (onSought x (denied 4) (λ s. pick (busy true s (a .blocks) 8) (denied 2)
           (pick (writeProtected (attributes a s)) (denied 11)
-          (onSought y (granted 0 (onFile a s (withName (getD (a .slots) s noFile) nn) n (getD (a .blocks) n closed)) (put 4 nn ∷ [])) (λ t. denied 3)))))
+          (onSought y (granted 0 (setFile a s (withName (getD (a .slots) s noFile) nn) n (getD (a .blocks) n closed)) (put 4 nn ∷ [])) (λ t. denied 3)))))
       go v nowhere e y = (refl, omega arith)
       go v (slot s) e y =
           let q = seek-found (λ x. named x nm 0) (a .slots) s e in
@@ -384,6 +384,6 @@ module _ (M S : ℕ) (z : Shape M S) (ds : List ℕ) (d : Listing S ds) (img tab
               → live nn 0 ≡ true → (y : Sought)
               → Meets M S ds img tab n
               (onNone (lookedUp (slotsOf ds) y) 5 3 (done 0 (store (getD (slotsOf ds) s 0 / 256) (getD (slotsOf ds) s 0 % 256) nn ∷ []) (put 4 nn ∷ [])))
-              (onSought y (granted 0 (onFile a s (withName (getD (a .slots) s noFile) nn) n (getD (a .blocks) n closed)) (put 4 nn ∷ [])) (λ t. denied 3))
+              (onSought y (granted 0 (setFile a s (withName (getD (a .slots) s noFile) nn) n (getD (a .blocks) n closed)) (put 4 nn ∷ [])) (λ t. denied 3))
           last s hs alive h2 v (slot t) = (refl, omega arith)
           last s hs alive h2 v nowhere = (refl, refl, omega (arith, length-part tab (320 * n + 53) 11), rename-step M S z ds d img tab a r s hs alive n hn oz h2 nn (length-part tab (320 * n + 53) 11) v)

@@ -27,7 +27,7 @@ use Rattle.laws.specs.Surveys.{Sane, census-is}
 use Rattle.laws.specs.Addresses.{Shape, Shaped}
 use Rattle.chains.specs.Addresses.{Sized}
 use Rattle.chains.specs.Directory.{Listing}
-use Rattle.demands.specs.Ledger.{Call, setting, extending, asking, blockOf, Ledger, form, Request, asks, request, Fate, denied, granted, ended, edits, reply, gives, after, called, fate, putInto}
+use Rattle.demands.specs.Ledger.{Call, setting, extending, asking, blockOf, Ledger, fcb, Request, asks, request, Fate, denied, granted, ended, edits, reply, gives, after, called, fate, putInto}
 use Rattle.demands.specs.Diskette.{ledgerOf}
 use Rattle.demands.specs.Service.{flex, ansOf, byteOf, Machine, outcome, answers, gave, next, entry, run, log}
 use Rattle.demands.specs.History.{noted, then, history, scenes, Told}
@@ -68,7 +68,7 @@ nothing-stored img (effect a b (s ∷ ss) ps) h = absurd (omega arith)
 pub record Fine (M S : ℕ) (ds : List ℕ) (x : Machine) (a : Ledger) : Type 0 where
   pub agrees : Agrees M S ds (x .img) (x .tab) a
   pub tidy : Tidy (a .slots)
-  pub formed : Formed (x .tab) (a .forms)
+  pub formed : Formed (x .tab) (a .fcbs)
 
 -- the bytes of blocks have no say in the relation
 reform : (M S : ℕ) (ds img tab : List ℕ) (a : Ledger) (n : ℕ) (ps : List Put) → Agrees M S ds img tab a → Agrees M S ds img tab (putInto a n ps)
@@ -155,10 +155,10 @@ module _ (M S : ℕ) (z : Shape M S) (ds : List ℕ) (d : Listing S ds) (x : Mac
     tidy-by : (ψ : Fate) → Changes a n (asks a n b) ψ → Tidy ((ledgerBy a ψ) .slots)
     tidy-by (denied e) c = f .tidy
     tidy-by (granted v a′ ps) c =
-        tidy-change a (f .tidy) a′ n (asks a n b) (length-part (form a n) (0 + 4) 11) (length-part (form a n) (0 + 53) 11)
+        tidy-change a (f .tidy) a′ n (asks a n b) (length-part (fcb a n) (0 + 4) 11) (length-part (fcb a n) (0 + 53) 11)
         (own-live M S ds (x .img) (x .tab) a (f .agrees) n hn) c
 
-    forms-by : (ψ : Fate) → Changes a n (asks a n b) ψ → (ledgerBy a ψ) .forms ≡ a .forms
+    forms-by : (ψ : Fate) → Changes a n (asks a n b) ψ → (ledgerBy a ψ) .fcbs ≡ a .fcbs
     forms-by (denied e) c = refl
     forms-by (granted v a′ ps) c = forms-kept a a′ n (asks a n b) c
 
@@ -173,15 +173,15 @@ module _ (M S : ℕ) (z : Shape M S) (ds : List ℕ) (d : Listing S ds) (x : Mac
               (subst (λ (y : Ledger). Agrees M S ds (stored (x .img) (onImage (call (x .img) (x .tab) n b))) tab′ y) (ended-ledger a φ) (met .rep));
           tidy = tidy-by φ ch;
           formed = subst (λ (y : List (List ℕ)). Formed tab′ (set y n (puts (getD y n []) 0 (putsBy (ended φ))))) (sym fs)
-              (subst (λ (ps : List Put). Formed tab′ (set (a .forms) n (puts (getD (a .forms) n []) 0 ps))) (met .laid)
-              (formed-puts (x .tab) (a .forms) (f .formed) (f .agrees .tlen) n (onBlock (call (x .img) (x .tab) n b)) hn (met .within)));
+              (subst (λ (ps : List Put). Formed tab′ (set (a .fcbs) n (puts (getD (a .fcbs) n []) 0 ps))) (met .laid)
+              (formed-puts (x .tab) (a .fcbs) (f .formed) (f .agrees .tlen) n (onBlock (call (x .img) (x .tab) n b)) hn (met .within)));
         }
 
     -- the bytes of its block afterwards
-    pub block-after : part (next flex x (asking n b) .tab) (320 * n) 320 ≡ puts (form a n) 0 (putsBy (ended φ))
+    pub block-after : part (next flex x (asking n b) .tab) (320 * n) 320 ≡ puts (fcb a n) 0 (putsBy (ended φ))
     block-after =
         let fs = forms-by φ (changes M S a n (asks a n b)) in
-        ask-fine .formed .is n hn ∙ getD-set-same ((ledgerBy a φ) .forms) n (puts (form (ledgerBy a φ) n) 0 (putsBy (ended φ))) [] (omega (arith, ap length fs, f .formed .count))
+        ask-fine .formed .is n hn ∙ getD-set-same ((ledgerBy a φ) .fcbs) n (puts (fcb (ledgerBy a φ) n) 0 (putsBy (ended φ))) [] (omega (arith, ap length fs, f .formed .count))
         ∙ ap (λ (y : List (List ℕ)). puts (getD y n []) 0 (putsBy (ended φ))) fs
 
     pub ask-step : Step M S ds x a (asking n b)
@@ -201,7 +201,7 @@ module _ (M S : ℕ) (z : Shape M S) (ds : List ℕ) (d : Listing S ds) (x : Mac
       record {
         agrees = reform M S ds (x .img) (x .tab) a n (put 1 (one 13) ∷ []) (f .agrees);
         tidy = f .tidy;
-        formed = formed-beyond (x .tab) (a .forms) (f .formed) (f .agrees .tlen) n (puts (form a n) 0 (put 1 (one 13) ∷ [])) h;
+        formed = formed-beyond (x .tab) (a .fcbs) (f .formed) (f .agrees .tlen) n (puts (fcb a n) 0 (put 1 (one 13) ∷ [])) h;
       } in
       record {
         fine = subst
@@ -224,7 +224,7 @@ module _ (M S : ℕ) (z : Shape M S) (ds : List ℕ) (d : Listing S ds) (x : Mac
             (record {
               agrees = reform M S ds (x .img) (puts (x .tab) (320 * n) (onBlock e)) a n (onBlock e) still;
               tidy = f .tidy;
-              formed = formed-puts (x .tab) (a .forms) (f .formed) (f .agrees .tlen) n (onBlock e) hn within;
+              formed = formed-puts (x .tab) (a .fcbs) (f .formed) (f .agrees .tlen) n (onBlock e) hn within;
             })
         go (no h) =
             rw (ne-eqb (answer e) 0 h, refused h) (record { agrees = f .agrees; tidy = f .tidy; formed = f .formed })
@@ -294,7 +294,7 @@ module _ (M S : ℕ) (z : Shape M S) (ds : List ℕ) (d : Listing S ds) (x : Mac
   unfolding outcome fate preset
   set-step n i v =
       let quiet = preset-quiet (x .img) (x .tab) n i v in
-      edit-step (setting n i v) n (presetIn (x .tab) (320 * n) i v) (presetIn (form a n) 0 i v) (preset (x .tab) n i v) refl refl refl refl (λ w. refl)
+      edit-step (setting n i v) n (presetIn (x .tab) (320 * n) i v) (presetIn (fcb a n) 0 i v) (preset (x .tab) n i v) refl refl refl refl (λ w. refl)
       (λ h. ap (λ (m : List ℕ). presetIn m 0 i v) (sym (f .formed .is n h)) ∙ preset-in (x .tab) (320 * n) i v)
       (preset-within (x .tab) (320 * n) i v) (quiet .1) (quiet .0 .few) (preset-still M S z ds d (x .img) (x .tab) a (f .agrees) n i v)
 
@@ -302,7 +302,7 @@ module _ (M S : ℕ) (z : Shape M S) (ds : List ℕ) (d : Listing S ds) (x : Mac
   unfolding outcome fate extension
   extend-step n c =
       let quiet = extension-quiet (x .img) (x .tab) n c in
-      edit-step (extending n c) n (extensionIn (x .tab) (320 * n) c) (extensionIn (form a n) 0 c) (extension (x .tab) n c) refl refl refl refl (λ w. refl)
+      edit-step (extending n c) n (extensionIn (x .tab) (320 * n) c) (extensionIn (fcb a n) 0 c) (extension (x .tab) n c) refl refl refl refl (λ w. refl)
       (λ h. ap (λ (m : List ℕ). extensionIn m 0 c) (sym (f .formed .is n h)) ∙ extension-in (x .tab) (320 * n) c)
       (extension-within (x .tab) (320 * n) c) (quiet .1) (quiet .0 .few) (extension-still M S z ds d (x .img) (x .tab) a (f .agrees) n c)
 
@@ -342,11 +342,11 @@ likewise-edits a n e true true =
 -- a preset or an extension
 pub likewise-set : (M S : ℕ) (a : Ledger) (n i v ans back : ℕ) → Likewise a (then M S a (record { made = setting n i v; ans = ans; back = back }))
 unfolding then fate
-likewise-set M S a n i v ans back = likewise-edits a n (presetIn (form a n) 0 i v) (eqb ans 0) (ltb n 8)
+likewise-set M S a n i v ans back = likewise-edits a n (presetIn (fcb a n) 0 i v) (eqb ans 0) (ltb n 8)
 
 pub likewise-extend : (M S : ℕ) (a : Ledger) (n c ans back : ℕ) → Likewise a (then M S a (record { made = extending n c; ans = ans; back = back }))
 unfolding then fate
-likewise-extend M S a n c ans back = likewise-edits a n (extensionIn (form a n) 0 c) (eqb ans 0) (ltb n 8)
+likewise-extend M S a n c ans back = likewise-edits a n (extensionIn (fcb a n) 0 c) (eqb ans 0) (ltb n 8)
 
 -- a call that was refused
 pub likewise-refused : (M S : ℕ) (a : Ledger) (n b ans back : ℕ) → ans ≢ 0 → Likewise a (then M S a (record { made = asking n b; ans = ans; back = back }))

@@ -20,10 +20,10 @@ use Rattle.laws.specs.Tests.{both}
 use Rattle.laws.specs.Addresses.{Shape}
 use Rattle.chains.specs.Chain.{pieces, length-pieces}
 use Rattle.chains.specs.Directory.{Listing}
-use Rattle.demands.specs.Ledger.{Call, setting, extending, asking, File, noFile, Block, closed, listing, reading, writing, Ledger, asks, Fate, denied, granted, reply, nowhere, slot, fileNamed, vacantSlot, holdsOpen, busy, activity, block, file, entryOf, tableOf, onBlock, onFile, withLast, withName, newFile, padTo, openedToRead, openedToWrite, shutBlock, performed, called}
+use Rattle.demands.specs.Ledger.{Call, setting, extending, asking, File, noFile, Block, closed, listing, reading, writing, Ledger, asks, Fate, denied, granted, reply, nowhere, slot, fileNamed, vacantSlot, holdsOpen, busy, activity, block, file, entryOf, tableOf, setBlock, setFile, withLast, withName, newFile, padTo, openedToRead, openedToWrite, shutBlock, performed, called}
 use Rattle.demands.specs.Service.{flex, Machine, answers, next, entry, run, log}
 use Rattle.demands.specs.History.{then, history, scenes, hits, nameAfter, nameThen, Survives, sentBy, concat, front, content}
-use Rattle.demands.specs.Demands.{Start, begun, lastOf, perOf, told, Asks, Idle, nameOf, rest, counted, ReadBack, Kept, Created, Demand2}
+use Rattle.demands.specs.Demands.{Start, begun, lastTrackOf, perTrackOf, told, Asks, Idle, nameOf, rest, counted, ReadBack, Kept, Created, Demand2}
 use Rattle.met.specs.Relation.{opens, writes, Writing, Keeps}
 use Rattle.met.specs.Quiet.{nobody, writes-opens}
 use Rattle.met.specs.Meets.{Sure, ledgerBy}
@@ -133,7 +133,7 @@ module _ (M S : ℕ) (z : Shape M S) (ds : List ℕ) (d : Listing S ds) where
     abbrev a1 : Ledger
     a1 = then M S a (entry flex x (asking m b))
 
-    opened : called M S a m (asks a m b) ≡ granted 0 (onBlock a m (reading s 0 0)) (putsOpened 1 ((file a s) .at) (entryOf (file a s)))
+    opened : called M S a m (asks a m b) ≡ granted 0 (setBlock a m (reading s 0 0)) (putsOpened 1 ((file a s) .at) (entryOf (file a s)))
     unfolding performed served within openedToRead
     opened =
         let fd : fileNamed (asks a m b .name) (a .slots) ≡ slot s = ap (λ (y : List ℕ). fileNamed y (a .slots)) nm ∙ found a (g .tidy) s f r in
@@ -280,7 +280,7 @@ module _ (M S : ℕ) (z : Shape M S) (ds : List ℕ) (d : Listing S ds) where
     unfolding fits
     fits-two act h = h
 
-    made : called M S a n (asks a n b) ≡ granted 0 (onFile a s nf n (writing s [])) (putsOpened 2 (nf .at) (entryOf nf))
+    made : called M S a n (asks a n b) ≡ granted 0 (setFile a s nf n (writing s [])) (putsOpened 2 (nf .at) (entryOf nf))
     unfolding performed served within openedToWrite
     made =
         called-of M S a n (asks a n b) 2 (k .function) refl (k .drive) (fits-two (activity (block a n)) i)
@@ -289,7 +289,7 @@ module _ (M S : ℕ) (z : Shape M S) (ds : List ℕ) (d : Listing S ds) where
     low : s < length (a .slots)
     low = seek-found (λ y. vacant y 0) (a .slots) s space .low
 
-    starts : Wrote (onFile a s nf n (writing s [])) n s (nameOf a n) []
+    starts : Wrote (setFile a s nf n (writing s [])) n s (nameOf a n) []
     unfolding content counted
     starts =
         let sf = getD-set-same (a .slots) s nf noFile low in
@@ -327,7 +327,7 @@ module _ (M S : ℕ) (z : Shape M S) (ds : List ℕ) (d : Listing S ds) where
         let x1 = next flex x (asking n b) in
         let g1 = step M S z ds d x a g (asking n b) .fine in
         let l = like-by x a g n b (k .block) _ made in
-        let w0 : Wrote a2 n s (nameOf a n) [] = wrote-like (onFile a s nf n (writing s [])) a2 l n s (nameOf a n) [] starts in
+        let w0 : Wrote a2 n s (nameOf a n) [] = wrote-like (setFile a s nf n (writing s [])) a2 l n s (nameOf a n) [] starts in
         let hs : s < length (slotsOf ds) = omega (arith, low, g .agrees .ns) in
         let at : file a2 s .at ≡ getD (slotsOf ds) s 0 = g1 .agrees .holds s hs .at in
         record {
@@ -350,15 +350,15 @@ module _ (M S : ℕ) (z : Shape M S) (ds : List ℕ) (d : Listing S ds) where
 -- ---- the demand
 
 module _ (x : Machine) (st : Start x) (cs : List Call) where
-  pub fine : Fine (lastOf x) (perOf x) (directory (x .img) (perOf x)) (run flex x cs) (told flex x cs)
-  fine = always (lastOf x) (perOf x) (start-shape x st) (directory (x .img) (perOf x)) (start-list x st) cs x (begun x) (start-fine x st) .0
+  pub fine : Fine (lastTrackOf x) (perTrackOf x) (directory (x .img) (perTrackOf x)) (run flex x cs) (told flex x cs)
+  fine = always (lastTrackOf x) (perTrackOf x) (start-shape x st) (directory (x .img) (perTrackOf x)) (start-list x st) cs x (begun x) (start-fine x st) .0
 
   pub table-here : run flex x cs .tab ≡ tableOf (told flex x cs)
-  table-here = table-is (run flex x cs .tab) (told flex x cs .forms) (fine .formed) (fine .agrees .tlen)
+  table-here = table-is (run flex x cs .tab) (told flex x cs .fcbs) (fine .formed) (fine .agrees .tlen)
 
 pub demand2 : Demand2 flex
 demand2 = record {
   presets = λ x st cs n i v. ap (λ (t : List ℕ). flex .preset t n i v) (table-here x st cs);
   creates = λ x st cs n s b k i ok none space.
-      created (lastOf x) (perOf x) (start-shape x st) (directory (x .img) (perOf x)) (start-list x st) (run flex x cs) (told flex x cs) (fine x st cs) n s b k i ok none space;
+      created (lastTrackOf x) (perTrackOf x) (start-shape x st) (directory (x .img) (perTrackOf x)) (start-list x st) (run flex x cs) (told flex x cs) (fine x st cs) n s b k i ok none space;
 }

@@ -19,7 +19,7 @@ use Rattle.laws.specs.Addresses.{Shape}
 use Rattle.chains.specs.Addresses.{absurd-bool}
 use Rattle.chains.specs.Chain.{setLast, length-pieces}
 use Rattle.chains.specs.Directory.{Listing}
-use Rattle.demands.specs.Ledger.{Call, setting, extending, asking, File, noFile, Block, closed, writing, Ledger, Request, asks, Fate, denied, granted, reply, busy, activity, block, file, onBlock, onFile, onFree, withLast, withNew, padTo, taken, transferred, performed, called}
+use Rattle.demands.specs.Ledger.{Call, setting, extending, asking, File, noFile, Block, closed, writing, Ledger, Request, asks, Fate, denied, granted, reply, busy, activity, block, file, setBlock, setFile, setFree, withLast, withNew, padTo, taken, transferred, performed, called}
 use Rattle.met.specs.Relation.{opens, writes, Writing, Keeps}
 use Rattle.met.specs.Searches.{not-busy, not-open}
 use Rattle.met.specs.Tidy.{nameOf}
@@ -170,7 +170,7 @@ module _ (M S : ℕ) (z : Shape M S) (ds : List ℕ) (d : Listing S ds) where
     first-byte e [] h = full h (ap (λ (b : Block). length (unfinished b)) (w .writer) ∙ e)
     first-byte e (k ∷ fr) h =
         let sf = set-f (withNew S (file a s) k) in
-        took (onFree a fr (drop 1 (a .spare)) s (withNew S (file a s) k) n (writing s (q .byte ∷ []))) _
+        took (setFree a fr (drop 1 (a .spare)) s (withNew S (file a s) k) n (writing s (q .byte ∷ []))) _
         (record {
           left = q .byte ∷ [];
           writer = set-b (writing s (q .byte ∷ []));
@@ -201,18 +201,18 @@ module _ (M S : ℕ) (z : Shape M S) (ds : List ℕ) (d : Listing S ds) where
 
     -- a byte inside, the last byte
     next-byte : 1 ≤ length (w .left)
-        → Wrought a n s nm sent (q .byte) (pick (eqb (length (w .left)) 251) (granted 0 (onFile a s (withLast (file a s) (padTo 251 (w .left) ++ q .byte ∷ [])) n (writing s [])) (sentPuts 255 (q .byte)))
-        (granted 0 (onBlock a n (writing s (w .left ++ q .byte ∷ []))) (sentPuts (4 + length (w .left)) (q .byte))))
+        → Wrought a n s nm sent (q .byte) (pick (eqb (length (w .left)) 251) (granted 0 (setFile a s (withLast (file a s) (padTo 251 (w .left) ++ q .byte ∷ [])) n (writing s [])) (sentPuts 255 (q .byte)))
+        (granted 0 (setBlock a n (writing s (w .left ++ q .byte ∷ []))) (sentPuts (4 + length (w .left)) (q .byte))))
     next-byte h = go (ℕ-discrete (length (w .left)) 251)
       where
         go : Dec (length (w .left) ≡ 251)
-            → Wrought a n s nm sent (q .byte) (pick (eqb (length (w .left)) 251) (granted 0 (onFile a s (withLast (file a s) (padTo 251 (w .left) ++ q .byte ∷ [])) n (writing s [])) (sentPuts 255 (q .byte)))
-            (granted 0 (onBlock a n (writing s (w .left ++ q .byte ∷ []))) (sentPuts (4 + length (w .left)) (q .byte))))
+            → Wrought a n s nm sent (q .byte) (pick (eqb (length (w .left)) 251) (granted 0 (setFile a s (withLast (file a s) (padTo 251 (w .left) ++ q .byte ∷ [])) n (writing s [])) (sentPuts 255 (q .byte)))
+            (granted 0 (setBlock a n (writing s (w .left ++ q .byte ∷ []))) (sentPuts (4 + length (w .left)) (q .byte))))
         go (yes e) =
             let sf = set-f (withLast (file a s) (padTo 251 (w .left) ++ q .byte ∷ [])) in
             let lf : padTo 251 (w .left) ≡ w .left = subst (λ (c : ℕ). padTo c (w .left) ≡ w .left) e (pad-full (w .left)) in
             rw (eq-eqb (length (w .left)) 251 e)
-            (took (onFile a s (withLast (file a s) (padTo 251 (w .left) ++ q .byte ∷ [])) n (writing s [])) _
+            (took (setFile a s (withLast (file a s) (padTo 251 (w .left) ++ q .byte ∷ [])) n (writing s [])) _
             (record {
               left = [];
               writer = set-b (writing s []);
@@ -229,7 +229,7 @@ module _ (M S : ℕ) (z : Shape M S) (ds : List ℕ) (d : Listing S ds) where
             }))
         go (no e) =
             rw (ne-eqb (length (w .left)) 251 e)
-            (took (onBlock a n (writing s (w .left ++ q .byte ∷ []))) _
+            (took (setBlock a n (writing s (w .left ++ q .byte ∷ []))) _
             (record {
               left = w .left ++ q .byte ∷ [];
               writer = set-b (writing s (w .left ++ q .byte ∷ []));

@@ -24,7 +24,7 @@ use Rattle.chains.specs.Tally.{tally, eq1-same, eq1-ne, tally-head}
 use Rattle.chains.specs.Chain.{pieces, pieces-at, length-pieces}
 use Rattle.chains.specs.Walk.{chainAt}
 use Rattle.chains.specs.Directory.{Listing}
-use Rattle.demands.specs.Ledger.{Call, setting, extending, asking, File, Block, listing, Ledger, form, file, block, asks, activity, entryOf, imageOf, Fate, denied, granted, ended, reply, onBlock, shownNext, fetched, performed, called}
+use Rattle.demands.specs.Ledger.{Call, setting, extending, asking, File, Block, listing, Ledger, fcb, file, block, asks, activity, entryOf, imageOf, Fate, denied, granted, ended, reply, setBlock, shownNext, fetched, performed, called}
 use Rattle.demands.specs.Service.{flex, Machine, answers, next, entry, run, log}
 use Rattle.demands.specs.History.{then, history}
 use Rattle.demands.specs.Demands.{Asks, Idle, inSlot}
@@ -177,7 +177,7 @@ module _ (M S : ℕ) (z : Shape M S) (ds : List ℕ) (d : Listing S ds) where
 
     -- ---- 7 and 9 deliver
     module _ (n b : ℕ) (hn : n < 8) where
-      form-long : length (form a n) ≡ 320
+      form-long : length (fcb a n) ≡ 320
       form-long = ap length (sym (g .formed .is n hn)) ∙ length-part (y .tab) (320 * n) 320
 
       -- the bytes that the last put but byte 1's has
@@ -185,10 +185,10 @@ module _ (M S : ℕ) (z : Shape M S) (ds : List ℕ) (d : Listing S ds) where
           → length vs ≡ c → part (next flex y (asking n b) .tab) (320 * n + i) c ≡ vs
       delivered ps i c vs e low high l =
           sym (part-part (next flex y (asking n b) .tab) (320 * n) 320 i c high)
-          ∙ ap (λ (m : List ℕ). part m i c) (block-after M S z ds d y a g n b hn ∙ ap (puts (form a n) 0) e ∙ puts-append ps (put i vs ∷ put 1 (one 0) ∷ []) (form a n) 0)
-          ∙ part-is (puts (puts (form a n) 0 ps) 0 (put i vs ∷ put 1 (one 0) ∷ [])) i c vs l
-          (λ j h. puts-at (put i vs ∷ put 1 (one 0) ∷ []) (puts (form a n) 0 ps) 0 0 j (i + j) (omega arith) (omega arith) (omega arith)
-          (omega (arith, length-puts ps (form a n) 0, form-long)) (omega (arith, length-one 0)))
+          ∙ ap (λ (m : List ℕ). part m i c) (block-after M S z ds d y a g n b hn ∙ ap (puts (fcb a n) 0) e ∙ puts-append ps (put i vs ∷ put 1 (one 0) ∷ []) (fcb a n) 0)
+          ∙ part-is (puts (puts (fcb a n) 0 ps) 0 (put i vs ∷ put 1 (one 0) ∷ [])) i c vs l
+          (λ j h. puts-at (put i vs ∷ put 1 (one 0) ∷ []) (puts (fcb a n) 0 ps) 0 0 j (i + j) (omega arith) (omega arith) (omega arith)
+          (omega (arith, length-puts ps (fcb a n) 0, form-long)) (omega (arith, length-one 0)))
 
     fits-seven : fits 7 16 ≡ true
     unfolding fits
@@ -200,7 +200,7 @@ module _ (M S : ℕ) (z : Shape M S) (ds : List ℕ) (d : Listing S ds) where
     shows n b p k e h =
         let φ : called M S a n (asks a n b) ≡ shownNext M S a n (asks a n b) (listing p) =
         called-of M S a n (asks a n b) 7 (k .function) refl (k .drive) (ap (λ (v : Block). fits 7 (activity v)) e ∙ fits-seven) ∙ (rw (k .function, e) refl) in
-        let ψ : called M S a n (asks a n b) ≡ granted 0 (onBlock a n (listing (suc p))) (put 47 (placeOf ((file a p) .at)) ∷ put 4 (entryOf (file a p)) ∷ []) =
+        let ψ : called M S a n (asks a n b) ≡ granted 0 (setBlock a n (listing (suc p))) (put 47 (placeOf ((file a p) .at)) ∷ put 4 (entryOf (file a p)) ∷ []) =
         φ ∙ (rw (lt-ltb p (length (a .slots)) h) refl) in
         let hs : p < length (slotsOf ds) = omega (arith, h, g .agrees .ns) in (
           asked M S z ds d y a g n b (k .block) .ans ∙ ap reply ψ,

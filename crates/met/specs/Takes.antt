@@ -26,7 +26,7 @@ use Rattle.laws.specs.Each.{Each}
 use Rattle.chains.specs.Snoc.{length-snoc}
 use Rattle.laws.specs.Stores.{Within, Off, inImage, Piece, begins, bytesOf, none, inBlock, stored-off, stored-at, puts-off, puts-at}
 use Rattle.chains.specs.Frame.{Frame, framed, Lies, in-record, in-sector, in-slot, of-nothing}
-use Rattle.demands.specs.Ledger.{File, noFile, closed, writing, Ledger, Request, denied, granted, onFree, withNew, taken, transferred}
+use Rattle.demands.specs.Ledger.{File, noFile, closed, writing, Ledger, Request, denied, granted, setFree, withNew, taken, transferred}
 use Rattle.met.specs.Relation.{tb, t2, opens, writes, Holds, Writing, Agrees, tp-same, step, long}
 use Rattle.met.specs.Quiet.{turned, alone1, alone2, nobody}
 use Rattle.met.specs.Meets.{Meets}
@@ -332,7 +332,7 @@ module _ (M S : ℕ) (z : Shape M S) (ds : List ℕ) (d : Listing S ds) (img tab
     unfolding six two one
     take-within = omega (arith, length-fresh (length l + 1))
 
-    pub take-step : Agrees M S ds img′ tab′ (onFree a fr (drop 1 (a .spare)) s grown n (writing s (b ∷ [])))
+    pub take-step : Agrees M S ds img′ tab′ (setFree a fr (drop 1 (a .spare)) s grown n (writing s (b ∷ [])))
     unfolding six two one
     take-step =
         step M S z ds d img tab a r img′ tab′ (k ∷ l) fr (drop 1 (a .spare)) n s grown (writing s (b ∷ [])) hn hs frame
@@ -378,7 +378,7 @@ module _ (M S : ℕ) (z : Shape M S) (ds : List ℕ) (d : Listing S ds) (img tab
 
   pub take-meets : (b : ℕ)
       → Meets M S ds img tab n (andThen (takeFor img tab M S (320 * n) o) (sent 4 b))
-      (granted 0 (onFree a fr (drop 1 (a .spare)) s grown n (writing s (b ∷ []))) (takePuts (adr S k) (adr S (first l′ 0)) (length l + 1) ++ sent 4 b))
+      (granted 0 (setFree a fr (drop 1 (a .spare)) s grown n (writing s (b ∷ []))) (takePuts (adr S k) (adr S (first l′ 0)) (length l + 1) ++ sent 4 b))
   unfolding takeFor takePuts sent
   take-meets b =
       let sd = secs-data M S z ds d img tab a r s hs in

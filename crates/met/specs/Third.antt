@@ -218,7 +218,7 @@ module _ (x : Machine) (s : Start x) where
         record {
           answered = f .1;
           image = image-is M S z ds d (y .img) (y .tab) h r;
-          table = table-is (y .tab) (h .forms) (f .0 .formed) (r .tlen);
+          table = table-is (y .tab) (h .fcbs) (f .0 .formed) (r .tlen);
           accepted = λ xs ys. census-is M S z ds d y h (f .0) xs ys;
           each-once = once-each M S z ds d y h (f .0);
           no-more = no-others M S z ds d y h (f .0);

@@ -4,11 +4,11 @@ use Rattle.laws.specs.Addresses.{addressOf}
 use Rattle.chains.specs.Addresses.{adr}
 use Rattle.chains.specs.Walk.{walk}
 use Rattle.demands.specs.Ledger.{entryOf, joined, chainStores, fileStores, freeRecord, imageOf, seek, busy, padTo, loaded, openedToRead, openedToWrite, fetched, deleted, renamed, performed, called, fate}
-use Rattle.demands.specs.Diskette.{fileAt, filesAt, formsFrom, ledgerOf}
+use Rattle.demands.specs.Diskette.{fileAt, filesAt, fcbsFrom, ledgerOf}
 use Rattle.demands.specs.Service.{outcome, next, entry, run, log}
 use Rattle.demands.specs.History.{then, history, scenes, nameThen, sentBy, content, pending, shownFrom, had, buffered, standing}
-use Rattle.demands.specs.Demands.{names, looks, quiet, aside, counted, inSlot}
+use Rattle.demands.specs.Demands.{names, looks, named, counted, inSlot}
 
 unfoldable pub demands : Unit {0}
-unfolding addressOf adr walk entryOf joined chainStores fileStores freeRecord imageOf seek busy padTo loaded openedToRead openedToWrite fetched deleted renamed performed called fate fileAt filesAt formsFrom ledgerOf outcome next entry run log then history scenes nameThen sentBy content pending shownFrom had buffered standing names looks quiet aside counted inSlot
+unfolding addressOf adr walk entryOf joined chainStores fileStores freeRecord imageOf seek busy padTo loaded openedToRead openedToWrite fetched deleted renamed performed called fate fileAt filesAt fcbsFrom ledgerOf outcome next entry run log then history scenes nameThen sentBy content pending shownFrom had buffered standing names looks named counted inSlot
 demands = tt

@@ -17,8 +17,8 @@ use Rattle.laws.specs.Tests.{never}
 use Rattle.demands.specs.Ledger.{Call, setting, asking, file, entryOf, tableOf, fate, reply}
 use Rattle.demands.specs.Diskette.{ledgerNumbers, ledgerOwners}
 use Rattle.demands.specs.Service.{Service, flex, saysOf, leftOf, ansOf, imgOf, tabOf, answers, gave, next, run}
-use Rattle.demands.specs.Demands.{Lent, Asks, begun, told, wholly, Demand1, Demand2, Demand3, nameOf, ledgerAfter, ReadBack, Kept, WrittenTo, Created}
-use Rattle.demands.specs.Fakes.{withCall, refusing, deaf, idling, stuck, nodding, eager, counting, inventing, meddling, deleting, misextending, wiping, mislisting, misnoting, scrambling, stingy, swapping, booting, misplacing, softening}
+use Rattle.demands.specs.Demands.{Lent, Asks, surveyAnswer, begun, told, wholly, Demand1, Demand2, Demand3, nameOf, ledgerAfter, ReadBack, Kept, WrittenTo, Created}
+use Rattle.demands.specs.Fakes.{withCall, refusing, deaf, idling, stuck, nodding, eager, counting, inventing, meddling, deleting, misextending, wiping, mislisting, misnoting, scrambling, stingy, swapping, booting, misplacing, stalling, purging, softening}
 use Rattle.refuted.specs.All.{demands}
 use Rattle.refuted.specs.Pair.{pairImage, pair, pair-start, paired}
 
@@ -82,6 +82,33 @@ pub softening-ours : ansOf (flex .call looped (pair .tab) 1 0) ≡ 5
 unfolding rules paired
 softening-ours = refl
 
+-- `looking`: block 0 reads, at index 10, where the census gives 42
+abbrev readingTable : List ℕ
+readingTable = over (over (zeros 2560) 2 (one 1)) 34 (one 10)
+
+pub stalling-fails : Demand1 stalling → ⊥
+unfolding rules demands paired
+stalling-fails d = differ 10 11 refl (ap (λ o. byteAt (tabOf o) 34) (d .looking looped readingTable 0 0 refl .1))
+
+pub stalling-ours : (byteAt (tabOf (flex .call looped readingTable 0 0)) 34 ≡ 11) × (surveyAnswer (flex .census looped (zeros 5) (zeros 5)) ≡ 42)
+unfolding rules paired
+stalling-ours = (refl, refl)
+
+-- `elsewhere`: block 2 renames B.DAT, where first free is 0,2 and the census gives 44; A.TXT's slot is not named
+abbrev strayed : List ℕ
+strayed = over pairImage 541 (one 0)
+
+abbrev renamingTable : List ℕ
+renamingTable = over (pair .tab) 640 (one 13)
+
+pub purging-fails : Demand1 purging → ⊥
+unfolding rules demands paired
+purging-fails d = differ 0 65 refl (d .elsewhere strayed renamingTable 2 0 1040 refl)
+
+pub purging-ours : (byteAt (imgOf (flex .call strayed renamingTable 2 0)) 1040 ≡ 65) × (surveyAnswer (flex .census strayed (zeros 5) (zeros 5)) ≡ 44)
+unfolding rules paired
+purging-ours = (refl, refl)
+
 -- ---- demand 2: block 0 makes C.TXT
 
 -- `presets`
@@ -139,7 +166,7 @@ module _ (d : Demand2 stuck) where
   unfolding rules demands paired
   stuck-writes = created _ d .writes (asking 0 7 ∷ setting 0 0 4 ∷ []) ((λ q. refl), ((λ q. refl), tt))
 
-  stuck-kept : Kept stuck 1 5 (run stuck pair made) (told stuck pair made) cTxt (7 ∷ [])
+  stuck-kept : Kept stuck 1 5 (run stuck pair made) (told stuck pair made) 1 cTxt (7 ∷ [])
   unfolding rules demands paired made cTxt
   stuck-kept = stuck-writes .kept 0 (record { block = omega arith; function = refl; drive = refl }) (omega arith)
 

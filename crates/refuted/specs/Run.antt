@@ -14,7 +14,7 @@ use Rattle.laws.specs.Tests.{never}
 use Rattle.demands.specs.Ledger.{Call, setting, extending, asking, Ledger, Block, closed, listing, reading, writing, file, block, asks, activity, entryOf}
 use Rattle.demands.specs.Service.{flex, Machine, Entry, answers, gave, next, run, log}
 use Rattle.demands.specs.History.{Scene, history, scenes, hits, Unnamed, ahead}
-use Rattle.demands.specs.Demands.{lastOf, perOf, begun, told, past, Asks, Idle, inSlot, placeIn}
+use Rattle.demands.specs.Demands.{lastTrackOf, perTrackOf, begun, told, past, Asks, Idle, inSlot, placeIn}
 use Rattle.met.specs.Third.{demand3}
 use Rattle.refuted.specs.All.{demands}
 use Rattle.refuted.specs.Pair.{pair, pair-start, paired}
@@ -100,8 +100,8 @@ record Summary : Type 0 where
 summary : List ℕ → List Entry → Summary
 summary nm es = record {
   outs = outcomes es;
-  facts = factsOf (history (lastOf pair) (perOf pair) (begun pair) es);
-  spares = unhit nm (scenes (lastOf pair) (perOf pair) (begun pair) es);
+  facts = factsOf (history (lastTrackOf pair) (perTrackOf pair) (begun pair) es);
+  spares = unhit nm (scenes (lastTrackOf pair) (perTrackOf pair) (begun pair) es);
 }
 
 abbrev aTxt : List ℕ
@@ -161,12 +161,12 @@ pub trial-unnamed : Unnamed aTxt (past flex pair trial)
 unfolding summary
 trial-unnamed = unnamed aTxt (past flex pair trial) (ap (λ (s : Summary). s .spares) computed)
 
-pub trial-live : (0 < length (slots (pair .img) (perOf pair))) × (live (pair .img) (placeIn pair 0) ≡ true)
+pub trial-live : (0 < length (slots (pair .img) (perTrackOf pair))) × (live (pair .img) (placeIn pair 0) ≡ true)
 unfolding rules demands paired
 trial-live = (omega arith, refl)
 
 -- byte 0 of the boot sector is named by nobody; 1,5 is a sector
-quiet-there : (0 < 256 * perOf pair) × (inSlot 0 (slots (pair .img) (perOf pair)) ≡ false) × (isSector (lastOf pair) (perOf pair) 261 ≡ true)
+quiet-there : (0 < 256 * perTrackOf pair) × (inSlot 0 (slots (pair .img) (perTrackOf pair)) ≡ false) × (isSector (lastTrackOf pair) (perTrackOf pair) 261 ≡ true)
 unfolding rules demands paired
 quiet-there = (omega arith, refl, refl)
 
@@ -190,7 +190,7 @@ clauses =
     let b = trial-busy in (
       s .readers 1 0 (b .reads .0) (b .reads .1) .1 ∙ b .reads .2,
       s .lists 3 0 2 (b .lists .0) (b .lists .1) (b .lists .2) .1,
-      s .fetches 4 0 (b .fetches .0) (b .fetches .1) (ap (isSector (lastOf pair) (perOf pair)) (b .fetches .2) ∙ quiet-there .2) .0,
+      s .fetches 4 0 (b .fetches .0) (b .fetches .1) (ap (isSector (lastTrackOf pair) (perTrackOf pair)) (b .fetches .2) ∙ quiet-there .2) .0,
       s .stays 0 (quiet-there .0) refl (quiet-there .1),
       s .spared 0 (trial-live .0) (trial-live .1) trial-unnamed .0,
     )

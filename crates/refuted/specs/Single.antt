@@ -11,7 +11,7 @@ use Rattle.rules.specs.Call.{call}
 use Rattle.demands.specs.Ledger.{Call, Ledger, imageOf, tableOf}
 use Rattle.demands.specs.Service.{Service, Machine, Entry, next, entry, run, log}
 use Rattle.demands.specs.History.{then, history, scenes, Told}
-use Rattle.demands.specs.Demands.{lastOf, perOf, Lent, Demand1, Start, begun, told, Demand3}
+use Rattle.demands.specs.Demands.{lastTrackOf, perTrackOf, Lent, Demand1, Start, begun, told, Demand3}
 
 module _ (M S : ℕ) (σ τ : Service) where
   alike : (cs : List Call) (x y : Machine) (a : Ledger) → Told M S (scenes M S a (log σ x cs)) → Told M S (scenes M S a (log τ y cs)) → log σ x cs ≡ log τ y cs
@@ -23,13 +23,13 @@ module _ (M S : ℕ) (σ τ : Service) where
 
 module _ (σ τ : Service) (d : Demand3 σ) (e : Demand3 τ) (x : Machine) (st : Start x) (cs : List Call) where
   pub one-log : log σ x cs ≡ log τ x cs
-  one-log = alike (lastOf x) (perOf x) σ τ cs x x (begun x) (d x st cs .answered) (e x st cs .answered)
+  one-log = alike (lastTrackOf x) (perTrackOf x) σ τ cs x x (begun x) (d x st cs .answered) (e x st cs .answered)
 
   one-ledger : told σ x cs ≡ told τ x cs
-  one-ledger = ap (history (lastOf x) (perOf x) (begun x)) one-log
+  one-ledger = ap (history (lastTrackOf x) (perTrackOf x) (begun x)) one-log
 
   pub one-image : run σ x cs .img ≡ run τ x cs .img
-  one-image = d x st cs .image ∙ ap (imageOf (perOf x)) one-ledger ∙ sym (e x st cs .image)
+  one-image = d x st cs .image ∙ ap (imageOf (perTrackOf x)) one-ledger ∙ sym (e x st cs .image)
 
   pub one-table : run σ x cs .tab ≡ run τ x cs .tab
   one-table = d x st cs .table ∙ ap tableOf one-ledger ∙ sym (e x st cs .table)
