@@ -81,13 +81,18 @@ impl Image {
         self.file.metadata()
     }
 
-    /// Whether the path leads to the file that is open here.
+    /// Whether the name that was typed and the path behind its links both lead to the file that is open here.
     pub fn is_still_there(&self) -> io::Result<bool> {
-        match fs::metadata(&self.path) {
-            Ok(there) => Ok(is_same(&there, &self.file.metadata()?)),
-            Err(error) if error.kind() == io::ErrorKind::NotFound => Ok(false),
-            Err(error) => Err(error),
-        }
+        let own = self.file.metadata()?;
+        Ok(leads_to(&self.named, &own)? && leads_to(&self.path, &own)?)
+    }
+}
+
+fn leads_to(path: &Path, file: &Metadata) -> io::Result<bool> {
+    match fs::metadata(path) {
+        Ok(there) => Ok(is_same(&there, file)),
+        Err(error) if error.kind() == io::ErrorKind::NotFound => Ok(false),
+        Err(error) => Err(error),
     }
 }
 
