@@ -43,6 +43,20 @@ if command -v flock >/dev/null; then
     shows LATE.TXT
     hides NORTH.TXT
 
+    # ---- one that no path leads to any more is not waited for
+    fresh
+    exec 9<disk
+    flock 9
+    cp disk other
+    rm err9
+    put_late 9 LATE.TXT disk &
+    until grep -qs "waiting up to 60 s" err9; do sleep 0.05; done
+    mv other disk
+    wait
+    [ "$(cat status9)" = 0 ] || fail "the late put: $(cat err9)"
+    does list disk
+    shows LATE.TXT
+
     # ---- who waited for the image behind a link changes the one that the link leads to by now
     fresh
     cp disk other
