@@ -69,6 +69,8 @@ for command in list info check census get put delete rename dump report; do
     does "$command" --help
     shows "usage: flexbox $command "
 done
+does help help
+shows "usage: flexbox COMMAND"
 does --help list
 shows "usage: flexbox list "
 refuses 2 "too many words; usage: flexbox help [COMMAND]" help list disk

@@ -57,6 +57,19 @@ if command -v flock >/dev/null; then
     does list disk
     shows LATE.TXT
 
+    # ---- one that became read-only meanwhile is not changed
+    fresh
+    exec 9<disk
+    flock 9
+    rm err9
+    put_late 9 LATE.TXT disk &
+    until grep -qs "waiting up to 60 s" err9; do sleep 0.05; done
+    chmod 444 disk
+    flock -u 9
+    wait
+    [ "$(cat status9)" = 3 ] || fail "read-only by now: $(cat err9)"
+    cmp disk "$demo"
+
     # ---- who waited for the image behind a link changes the one that the link leads to by now
     fresh
     cp disk other
