@@ -107,7 +107,7 @@ fn unfit(path: &Path, replace: bool, image: &Metadata) -> Option<&'static str> {
     if fs::metadata(path).map_or(false, |there| is_same(&there, image)) {
         return Some("this is the image itself");
     }
-    (!replace && fs::symlink_metadata(path).is_ok()).then(|| THERE)
+    (!replace && fs::symlink_metadata(path).is_ok()).then_some(THERE)
 }
 
 const THERE: &str = "it is there already; --replace would replace it";
