@@ -96,6 +96,20 @@ if command -v flock >/dev/null; then
     flock -u 9
     exec 9<&-
     does delete --wait 0 disk SOUTH.TXT
+
+    # ---- a get that waits for whoever takes its bytes keeps nobody out
+    fresh
+    mkfifo slow
+    "${flexbox[@]}" get --replace disk NORTH.TXT=slow &
+    for _ in $(seq 100); do
+        sleep 0.05
+        ! grep -qs '^State:.*sleeping' "/proc/$!/status" || break
+    done
+    does delete --wait 0 disk NORTH.TXT
+    does get "$demo" NORTH.TXT
+    timeout 60 cmp slow out
+    wait
+    rm slow
 else
     echo "flexbox: no flock here: only eight puts at once were tried"
 fi

@@ -26,6 +26,8 @@ pub fn run(words: &Words) -> Result<(), Failure> {
     }
     let own = image.metadata().map_err(|error| Failure::File(error.to_string()))?;
     look_at_places(words, &pieces, &own)?;
+    // Whoever takes the bytes may be slow, and no change has to wait for that: the lock goes.
+    drop(image);
     for (piece, reading) in pieces.iter().zip(&readings) {
         give(words, piece, trimmed(words, &reading.bytes))?;
     }
