@@ -88,6 +88,11 @@ cmp three logs/ONE.TXT
 refuses 1 "DISK ERROR #003" put disk FOUR.TXT=three ONE.TXT=three
 refuses 1 "DISK ERROR #004" get disk ONE.TXT=five NONE.TXT=six
 [ ! -e five ] || fail "a refused get made a file"
+refuses 3 "three: it is there already" get disk ONE.TXT=five TWO.TXT=three
+refuses 2 "./five: two files would be written to it" get disk ONE.TXT=five TWO.TXT=./five
+refuses 2 "./three: two files would be written to it" get --replace disk ONE.TXT=three TWO.TXT=./three
+cmp three logs/ONE.TXT
+[ ! -e five ] || fail "a refused get made a file"
 refuses 2 "several files need" put disk A.TXT B.TXT
 refuses 2 "named twice" put disk A.TXT=one A=two
 refuses 3 "nowhere" put disk A.TXT=nowhere

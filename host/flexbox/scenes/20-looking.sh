@@ -69,6 +69,12 @@ for command in list info check census get put delete rename dump report; do
     does "$command" --help
     shows "usage: flexbox $command "
 done
+does help help
+shows "usage: flexbox COMMAND"
+does --help list
+shows "usage: flexbox list "
+refuses 2 "too many words; usage: flexbox help [COMMAND]" help list disk
+refuses 2 "too many words" --version disk
 refuses 2 "no command"
 refuses 2 "no command 'format'" format disk
 refuses 2 "no command 'format'" help format

@@ -76,6 +76,13 @@ refuses 1 "DISK ERROR #005" list disk
 ends 1 "" check disk
 shows "42 directory: its sector 0,5 links to 0,4, which is not on track 0 in sectors 5 to 8"
 
+does info disk
+shows "files    not known"
+does info --json disk
+shows '"files":null,"slots":null,"census":42'
+ends 1 "" check --json disk
+shows '"verdict":42,"meaning":"directory not right","files":null'
+
 # ---- a chain that runs on into another file, or ends early, is no file to trust
 fresh
 patch "$(sector 2 4)" 2 6
@@ -86,6 +93,16 @@ refuses 1 "DISK ERROR #045" get disk NORTH.TXT=north
 ends 1 "given all the same by --force" get --force disk NORTH.TXT
 [ "$(wc -c <out)" = $((7 * 252)) ] || fail "--force did not give all bytes"
 warns "damaged, but not in this file" get disk SOUTH.TXT
+
+# ---- where nobody can be told, the work and the status are the same
+if [ -c /dev/full ]; then
+    cp out south
+    "${flexbox[@]}" get disk SOUTH.TXT >out 2>/dev/full || fail "status $? where standard error is full"
+    cmp out south
+    status=0
+    "${flexbox[@]}" put disk NEW.TXT <lines 2>/dev/full || status=$?
+    [ "$status" = 1 ] || fail "status $status where standard error is full"
+fi
 fresh
 patch "$(sector 1 6)" 0 0
 refuses 1 "DISK ERROR #045" get disk NORTH.TXT

@@ -35,6 +35,14 @@ if [ "$(id -u)" = 0 ]; then
         chmod 644 disk
         refuses 3 "disk: Permission denied" put disk NEW.TXT <lines
         does list disk
+
+        # ---- who may not sync the folder does not change it
+        "${other[@]}" mkdir closed
+        "${other[@]}" cp "$demo" closed/disk
+        chmod 644 closed/disk
+        chmod 300 closed
+        refuses 3 "closed: it could not be synced" put closed/disk NEW.TXT <lines
+        cmp closed/disk "$demo"
         flexbox=("${flexbox[@]:${#other[@]}}")
     else
         echo "flexbox: another user can't run it here: that an owner who can't be kept is a refusal was not tried"

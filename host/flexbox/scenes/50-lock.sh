@@ -1,16 +1,16 @@
 # Several at once: the image is locked from before it is read until the new one is in its place.
 
-# put_late NUMBER NAME: waits for the lock as long as it must; messages and status go to files
+# put_late NUMBER NAME IMAGE: waits for the lock as long as it must; messages and status go to files
 put_late() {
     local status=0
-    echo "log $1" | "${flexbox[@]}" put --wait 60 disk "$2" >"out$1" 2>"err$1" || status=$?
+    echo "log $1" | "${flexbox[@]}" put --wait 60 "$3" "$2" >"out$1" 2>"err$1" || status=$?
     echo $status >"status$1"
 }
 
 # ---- of eight that put at once, all eight files are there
 fresh
 for i in 1 2 3 4 5 6 7 8; do
-    put_late "$i" "LOG$i.TXT" &
+    put_late "$i" "LOG$i.TXT" disk &
 done
 wait
 does list disk
@@ -33,7 +33,7 @@ if command -v flock >/dev/null; then
     # ---- who waited for an image that was replaced meanwhile changes the new one
     cp disk other
     does delete other NORTH.TXT
-    put_late 9 LATE.TXT &
+    put_late 9 LATE.TXT disk &
     until grep -qs "waiting up to 60 s" err9; do sleep 0.05; done
     mv other disk
     flock -u 9
@@ -43,6 +43,51 @@ if command -v flock >/dev/null; then
     shows LATE.TXT
     hides NORTH.TXT
 
+    # ---- one that no path leads to any more is not waited for
+    fresh
+    exec 9<disk
+    flock 9
+    cp disk other
+    rm err9
+    put_late 9 LATE.TXT disk &
+    until grep -qs "waiting up to 60 s" err9; do sleep 0.05; done
+    mv other disk
+    wait
+    [ "$(cat status9)" = 0 ] || fail "the late put: $(cat err9)"
+    does list disk
+    shows LATE.TXT
+
+    # ---- one that became read-only meanwhile is not changed
+    fresh
+    exec 9<disk
+    flock 9
+    rm err9
+    put_late 9 LATE.TXT disk &
+    until grep -qs "waiting up to 60 s" err9; do sleep 0.05; done
+    chmod 444 disk
+    flock -u 9
+    wait
+    [ "$(cat status9)" = 3 ] || fail "read-only by now: $(cat err9)"
+    cmp disk "$demo"
+
+    # ---- who waited for the image behind a link changes the one that the link leads to by now
+    fresh
+    cp disk other
+    ln -s disk link
+    exec 9<disk
+    flock 9
+    rm err9
+    put_late 9 LATE.TXT link &
+    until grep -qs "waiting up to 60 s" err9; do sleep 0.05; done
+    ln -sfn other link
+    flock -u 9
+    wait
+    [ "$(cat status9)" = 0 ] || fail "the late put: $(cat err9)"
+    cmp disk "$demo"
+    does list other
+    shows LATE.TXT
+    rm link other
+
     # ---- those who only look do not keep each other out, and keep a change out until they are done
     exec 9<disk
     flock -s 9
@@ -51,6 +96,20 @@ if command -v flock >/dev/null; then
     flock -u 9
     exec 9<&-
     does delete --wait 0 disk SOUTH.TXT
+
+    # ---- a get that waits for whoever takes its bytes keeps nobody out
+    fresh
+    mkfifo slow
+    "${flexbox[@]}" get --replace disk NORTH.TXT=slow &
+    for _ in $(seq 100); do
+        sleep 0.05
+        ! grep -qs '^State:.*sleeping' "/proc/$!/status" || break
+    done
+    does delete --wait 0 disk NORTH.TXT
+    does get "$demo" NORTH.TXT
+    timeout 60 cmp slow out
+    wait
+    rm slow
 else
     echo "flexbox: no flock here: only eight puts at once were tried"
 fi

@@ -53,6 +53,13 @@ if [ -n "${CC:-}" ] && "$CC" -shared -fPIC -O1 "$here/witness.c" -o witness.so -
     fresh
     witnessed WITNESS_FAIL=1 -- rename disk NORTH.TXT NEW.TXT
     grep -q '\.flexbox-.*\.new: No space left' err || fail "the new file is not named: $(cat err)"
+
+    # ---- of a file that get could not write whole nothing is left
+    fresh
+    witnessed WITNESS_FAIL=1 -- get disk NORTH.TXT=part
+    [ "$status" = 3 ] || fail "status $status after get could not write"
+    grep -q '^flexbox: part: No space left' err || fail "the file is not named: $(cat err)"
+    [ ! -e part ] || fail "a part of a file is left"
 else
     echo "flexbox: no compiler here: the order of write, sync and rename was not tried"
 fi

@@ -1,6 +1,7 @@
 //! Why a command failed, what is said of it on standard error, and the exit status that it gives.
 
 use flex::Refusal;
+use std::io::{self, Write};
 
 #[derive(Debug)]
 pub enum Failure {
@@ -29,9 +30,9 @@ impl Failure {
     pub fn say(&self) {
         match self {
             Failure::Refused(refusal, what) => {
-                eprintln!("{}: {} ({})", flex::message(refusal.number()), refusal.meaning(), what)
+                tell(&format!("{}: {} ({})", flex::message(refusal.number()), refusal.meaning(), what))
             }
-            Failure::Usage(text) | Failure::File(text) | Failure::Locked(text) => eprintln!("flexbox: {}", text),
+            Failure::Usage(text) | Failure::File(text) | Failure::Locked(text) => note(text),
             Failure::Shown => {}
         }
     }
@@ -39,5 +40,10 @@ impl Failure {
 
 /// Says something on standard error that is no failure.
 pub fn note(text: &str) {
-    eprintln!("flexbox: {}", text);
+    tell(&format!("flexbox: {}", text));
+}
+
+/// A line on standard error. Where that is full or closed nobody can be told, and the work goes on to its right status.
+pub fn tell(line: &str) {
+    let _ = writeln!(io::stderr(), "{}", line);
 }

@@ -1,8 +1,8 @@
 //! Image files: opened, locked and read to be looked at or changed.
 //!
 //! The lock is flock's, on the image file itself: shared to look, exclusive from before a change is read until after the new
-//! image is in place. A change renames a new file over the old one, so whoever waited for the old file's lock looks, once he
-//! has it, whether the path still leads to that file, and begins again if not.
+//! image is in place. A change renames a new file over the old one, so whoever waits opens the path anew for each try, and looks,
+//! once the lock is had, whether the path still leads to that file.
 
 use crate::failure::{note, Failure};
 use crate::input;
@@ -40,22 +40,43 @@ impl Image {
         Image::open(named, Lock::Exclusive, wait)
     }
 
+    /// Each try begins at the name: an image that was replaced is not waited for while the new one is free.
     fn open(named: &Path, lock: Lock, wait: Duration) -> Result<Image, Failure> {
-        let deadline = Instant::now() + wait;
-        let failed = |error| failed(named, error);
+        let mut patience = Patience::new(named, wait);
         loop {
-            // A link stays a link: what it leads to is replaced.
-            let path = fs::canonicalize(named).map_err(failed)?;
-            let metadata = fs::metadata(&path).map_err(failed)?;
-            suits(named, &metadata, lock)?;
-            let file = open_file(&path, lock).map_err(failed)?;
-            wait_for(&file, named, lock, deadline, wait)?;
-            let image = Image { named: named.to_path_buf(), path, file };
-            if image.is_still_there().map_err(failed)? {
-                // The file may have got another mode or a second name while another held the lock.
-                suits(named, &image.metadata().map_err(failed)?, lock)?;
+            let image = Image::open_file(named, lock)?;
+            if !image.try_lock(lock)? {
+                patience.pause()?;
+            } else if image.is_still_there().map_err(|error| failed(named, error))? {
+                // The file may have got another mode or a second name meanwhile.
+                image.suits(lock)?;
                 return Ok(image);
             }
+        }
+    }
+
+    fn open_file(named: &Path, lock: Lock) -> Result<Image, Failure> {
+        let failed = |error| failed(named, error);
+        // A link stays a link: what it leads to is replaced.
+        let path = fs::canonicalize(named).map_err(failed)?;
+        suits(named, &fs::metadata(&path).map_err(failed)?, lock)?;
+        // Should the path have become a FIFO by now, opening it does not wait.
+        let mut options = OpenOptions::new();
+        options.read(true).write(lock == Lock::Exclusive).custom_flags(posix::OPEN_WITHOUT_WAITING);
+        let file = options.open(&path).map_err(failed)?;
+        Ok(Image { named: named.to_path_buf(), path, file })
+    }
+
+    fn suits(&self, lock: Lock) -> Result<(), Failure> {
+        suits(&self.named, &self.metadata().map_err(|error| failed(&self.named, error))?, lock)
+    }
+
+    fn try_lock(&self, lock: Lock) -> Result<bool, Failure> {
+        match posix::try_lock(&self.file, lock) {
+            // A file system without locks has nobody who could hold one; what is only looked at is read all the same.
+            Err(_) if lock == Lock::Shared => Ok(true),
+            Err(error) => Err(Failure::File(format!("{}: it can't be locked: {}", self.named.display(), error))),
+            Ok(had) => Ok(had),
         }
     }
 
@@ -81,13 +102,18 @@ impl Image {
         self.file.metadata()
     }
 
-    /// Whether the path leads to the file that is open here.
+    /// Whether the name that was typed and the path behind its links both lead to the file that is open here.
     pub fn is_still_there(&self) -> io::Result<bool> {
-        match fs::metadata(&self.path) {
-            Ok(there) => Ok(is_same(&there, &self.file.metadata()?)),
-            Err(error) if error.kind() == io::ErrorKind::NotFound => Ok(false),
-            Err(error) => Err(error),
-        }
+        let own = self.file.metadata()?;
+        Ok(leads_to(&self.named, &own)? && leads_to(&self.path, &own)?)
+    }
+}
+
+fn leads_to(path: &Path, file: &Metadata) -> io::Result<bool> {
+    match fs::metadata(path) {
+        Ok(there) => Ok(is_same(&there, file)),
+        Err(error) if error.kind() == io::ErrorKind::NotFound => Ok(false),
+        Err(error) => Err(error),
     }
 }
 
@@ -120,31 +146,30 @@ fn suits(named: &Path, metadata: &Metadata, lock: Lock) -> Result<(), Failure> {
     Ok(())
 }
 
-/// Should the path have become a FIFO by now, opening it does not wait.
-fn open_file(path: &Path, lock: Lock) -> io::Result<File> {
-    let change = lock == Lock::Exclusive;
-    OpenOptions::new().read(true).write(change).custom_flags(posix::OPEN_WITHOUT_WAITING).open(path)
+/// How long a lock is still waited for.
+struct Patience<'a> {
+    named: &'a Path,
+    wait: Duration,
+    began: Instant,
+    said: bool,
 }
 
-fn wait_for(file: &File, named: &Path, lock: Lock, deadline: Instant, wait: Duration) -> Result<(), Failure> {
-    let began = Instant::now();
-    let mut said = false;
-    loop {
-        match posix::try_lock(file, lock) {
-            Ok(true) => return Ok(()),
-            Ok(false) => {}
-            // A file system without locks has nobody who could hold one; what is only looked at is read all the same.
-            Err(_) if lock == Lock::Shared => return Ok(()),
-            Err(error) => return Err(Failure::File(format!("{}: it can't be locked: {}", named.display(), error))),
+impl Patience<'_> {
+    fn new(named: &Path, wait: Duration) -> Patience<'_> {
+        Patience { named, wait, began: Instant::now(), said: false }
+    }
+
+    /// A moment's sleep, or, after all of the time, the end.
+    fn pause(&mut self) -> Result<(), Failure> {
+        let (name, seconds) = (self.named.display(), self.wait.as_secs());
+        if self.began.elapsed() >= self.wait {
+            return Err(Failure::Locked(format!("{}: another program still has it locked after {} s", name, seconds)));
         }
-        if Instant::now() >= deadline {
-            let text = format!("{}: another program still has it locked after {} s", named.display(), wait.as_secs());
-            return Err(Failure::Locked(text));
-        }
-        if !said && began.elapsed() >= QUIET {
-            note(&format!("{}: locked by another program; waiting up to {} s", named.display(), wait.as_secs()));
-            said = true;
+        if !self.said && self.began.elapsed() >= QUIET {
+            note(&format!("{}: locked by another program; waiting up to {} s", name, seconds));
+            self.said = true;
         }
         thread::sleep(PAUSE);
+        Ok(())
     }
 }

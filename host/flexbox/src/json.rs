@@ -26,6 +26,11 @@ pub fn list(items: impl IntoIterator<Item = String>) -> String {
     format!("[{}]", items.into_iter().collect::<Vec<String>>().join(","))
 }
 
+/// A number, or null where it is not known.
+pub fn number(number: Option<usize>) -> String {
+    number.map_or("null".to_string(), |number| number.to_string())
+}
+
 /// Track and sector.
 pub fn address(address: Address) -> String {
     format!("[{},{}]", address.track, address.sector)
@@ -69,6 +74,7 @@ mod tests {
         assert_eq!(text("a\"b\\c\n\u{7f}é"), "\"a\\\"b\\\\c\\u000a\\u007fé\"");
         let object = Object::new().with_text("name", "A").with("size", 3).with("at", address(Address::new(1, 2))).end();
         assert_eq!(object, "{\"name\":\"A\",\"size\":3,\"at\":[1,2]}");
+        assert_eq!((number(Some(3)).as_str(), number(None).as_str()), ("3", "null"));
         assert_eq!(list(["1".to_string(), "2".to_string()]), "[1,2]");
     }
 }

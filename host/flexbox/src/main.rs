@@ -37,11 +37,14 @@ fn run(arguments: &[OsString]) -> Result<(), Failure> {
     let words: Vec<&str> = arguments.iter().map(|word| word.to_str().unwrap_or("\u{fffd}")).collect();
     match words.as_slice() {
         [] => Err(Failure::Usage("no command; 'flexbox help' lists them".to_string())),
-        ["help" | "--help" | "-h"] => commands::print(commands::overview().as_bytes()),
-        ["help", name] => commands::print(command(name)?.help().as_bytes()),
+        ["help" | "--help" | "-h"] | ["help", "help"] => commands::print(commands::overview().as_bytes()),
+        ["help" | "--help" | "-h", name] => commands::print(command(name)?.help().as_bytes()),
         ["--version" | "-V"] => {
             let text = format!("flexbox {}, flex {}\n", env!("CARGO_PKG_VERSION"), flex::VERSION);
             commands::print(text.as_bytes())
+        }
+        ["help" | "--help" | "-h" | "--version" | "-V", ..] => {
+            Err(Failure::Usage("too many words; usage: flexbox help [COMMAND], or flexbox --version".to_string()))
         }
         [name, ..] => {
             let command = command(name)?;

@@ -15,13 +15,17 @@ const TRIES: u32 = 100;
 /// with the file that is meant.
 pub fn replace(image: &Image, bytes: &[u8]) -> Result<(), String> {
     let folder = image.path().parent().unwrap_or_else(|| Path::new("/"));
+    // Opened first, so that one who may not sync it learns so before anything is changed.
+    let opened =
+        File::open(folder).map_err(|error| format!("{}: it could not be synced: {}", folder.display(), error))?;
     let (new, file) = create_beside(folder)?;
     if let Err(problem) = fill(&new, file, image, bytes).and_then(|()| put_in_place(&new, image)) {
         // This file was made above, so nobody else's is deleted.
         let _ = fs::remove_file(&new);
         return Err(problem);
     }
-    sync_folder(folder).map_err(|error| {
+    // Only then is the rename itself safe from a cut.
+    opened.sync_all().map_err(|error| {
         format!("{}: the new image is in place, but its folder could not be synced: {}", folder.display(), error)
     })
 }
@@ -66,11 +70,6 @@ fn put_in_place(new: &Path, image: &Image) -> Result<(), String> {
         return Err(format!("{}: another file was put there meanwhile; not changed", image.named().display()));
     }
     fs::rename(new, image.path()).map_err(named)
-}
-
-/// Only then is the rename itself safe from a cut.
-fn sync_folder(folder: &Path) -> io::Result<()> {
-    File::open(folder)?.sync_all()
 }
 
 #[cfg(test)]

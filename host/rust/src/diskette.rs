@@ -53,6 +53,7 @@ impl Diskette {
         (self.image, self.table)
     }
 
+    /// The image as it is now.
     pub fn image(&self) -> &[u8] {
         &self.image
     }
@@ -173,6 +174,7 @@ impl Diskette {
         Ok(Reading { bytes, entry, last, stopped })
     }
 
+    /// Deletes the file of this name; its sectors hang behind the free chain.
     pub fn delete(&mut self, name: &Name) -> Result<(), Refusal> {
         self.ask_of(JOB, DELETE, name)
     }

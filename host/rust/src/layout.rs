@@ -82,7 +82,9 @@ pub const DATA: usize = 252;
 /// Track and sector; 0,0 is no sector and ends a chain.
 #[derive(Clone, Copy, Debug, Default, PartialEq, Eq, PartialOrd, Ord, Hash)]
 pub struct Address {
+    /// From 0 on.
     pub track: u8,
+    /// From 1 on.
     pub sector: u8,
 }
 
@@ -90,6 +92,7 @@ impl Address {
     /// 0,0: the end of a chain.
     pub const NONE: Address = Address { track: 0, sector: 0 };
 
+    /// Any track and sector, there or not.
     pub const fn new(track: u8, sector: u8) -> Address {
         Address { track, sector }
     }
@@ -110,7 +113,9 @@ impl fmt::Display for Address {
 /// The last track M and the sectors per track S.
 #[derive(Clone, Copy, Debug, PartialEq, Eq)]
 pub struct Shape {
+    /// M
     pub last: u8,
+    /// S
     pub per: u8,
 }
 

@@ -20,6 +20,7 @@
 //! [`entry`] has them with the archive's bare answers.
 
 #![deny(unsafe_code)]
+#![warn(missing_docs)]
 
 mod diskette;
 #[allow(unsafe_code)]

@@ -20,10 +20,12 @@ impl Name {
         Name(bytes)
     }
 
+    /// As they stand in a slot or in a control block.
     pub fn bytes(&self) -> &[u8; 11] {
         &self.0
     }
 
+    /// Whether the extension is not empty.
     pub fn has_extension(&self) -> bool {
         self.0[8] != 0
     }

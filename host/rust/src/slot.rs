@@ -11,14 +11,18 @@ use std::fmt;
 pub struct Slot {
     /// The slot's number, all slots counted from 1: the census names a file's owner so.
     pub number: usize,
+    /// Where it lies.
     pub place: Place,
+    /// What it holds.
     pub state: State,
 }
 
 /// Where a slot lies: in this sector, from this byte on.
 #[derive(Clone, Copy, Debug, Default, PartialEq, Eq)]
 pub struct Place {
+    /// A sector of the directory.
     pub sector: Address,
+    /// The slot's first byte in it.
     pub displacement: u8,
 }
 
@@ -29,22 +33,31 @@ impl fmt::Display for Place {
     }
 }
 
+/// What a slot holds, by its first byte.
 #[derive(Clone, Debug, PartialEq, Eq)]
 pub enum State {
+    /// 0: a search for a name ends here.
     NeverUsed,
+    /// 128 or more.
     Deleted,
+    /// Any other: a file.
     Live(Entry),
 }
 
 /// What the directory says of a file.
 #[derive(Clone, Debug, PartialEq, Eq)]
 pub struct Entry {
+    /// Name and extension.
     pub name: Name,
+    /// The first sector; 0,0 if there is none.
     pub start: Address,
+    /// The last sector; 0,0 if there is none.
     pub end: Address,
     /// The size in sectors.
     pub sectors: u16,
+    /// It can be neither deleted nor renamed.
     pub write_protected: bool,
+    /// It can't be deleted.
     pub delete_protected: bool,
     /// Month, day, and the last two digits of the year.
     pub date: [u8; 3],

@@ -90,8 +90,14 @@ impl Check {
         self.chains.iter().filter(|(owner, _)| *owner == Owner::Free).map(|(_, sectors)| sectors.len()).sum()
     }
 
-    pub fn files(&self) -> usize {
-        self.slots.iter().filter(|slot| slot.entry().is_some()).count()
+    /// Whether it is known which files there are: the service lists no slots of a directory that is not right.
+    pub fn has_slots(&self) -> bool {
+        !self.slots.is_empty()
+    }
+
+    /// How many files there are, if that is known.
+    pub fn files(&self) -> Option<usize> {
+        self.has_slots().then(|| self.slots.iter().filter(|slot| slot.entry().is_some()).count())
     }
 }
 

@@ -4,7 +4,7 @@
 
 use super::{refused, refused_of};
 use crate::check;
-use crate::failure::{note, Failure};
+use crate::failure::{note, tell, Failure};
 use crate::image::Image;
 use crate::words::Words;
 use flex::{Diskette, Refusal};
@@ -54,10 +54,10 @@ fn accept(words: &Words, diskette: &mut Diskette) -> Result<bool, Failure> {
 pub fn say_where(image: &Path, diskette: &mut Diskette) {
     if let Ok(check) = check::check(diskette) {
         for finding in check.findings.iter().take(TOLD) {
-            eprintln!("  {} {}", finding.number, finding);
+            tell(&format!("  {} {}", finding.number, finding));
         }
         if check.findings.len() > TOLD {
-            eprintln!("  and {} more: flexbox check {}", check.findings.len() - TOLD, image.display());
+            tell(&format!("  and {} more: flexbox check {}", check.findings.len() - TOLD, image.display()));
         }
     }
 }

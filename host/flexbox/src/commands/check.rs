@@ -34,7 +34,7 @@ fn as_text(words: &Words, check: &Check) -> String {
         for finding in check.findings.iter().filter(|finding| finding.number == *number) {
             let _ = writeln!(text, "  {} {}", number, finding);
         }
-        if *number == 42 && check.slots.is_empty() {
+        if *number == 42 && !check.has_slots() {
             text.push_str("  the slots can't be listed: names, files and their sectors are not checked\n");
         }
     }
@@ -48,7 +48,7 @@ fn last_line(words: &Words, check: &Check) -> String {
     let all = check.shape.data_sectors();
     match check.verdict {
         Ok(()) => {
-            let files = plural(check.files(), "file");
+            let files = plural(check.files().unwrap_or_default(), "file");
             format!("{}: clean, {}, {} of {} sectors used, {} free\n", name, files, all - free, all, free)
         }
         Err(refusal) => {
@@ -73,7 +73,7 @@ fn as_json(words: &Words, check: &Check) -> String {
         .with_text("image", &words.image().to_string_lossy())
         .with("verdict", number)
         .with_text("meaning", meaning)
-        .with("files", check.files())
+        .with("files", json::number(check.files()))
         .with("data_sectors", check.shape.data_sectors())
         .with("free_sectors", check.free_sectors())
         .with("findings", json::list(findings))

@@ -7,9 +7,10 @@ use crate::failure::{note, Failure};
 use crate::image::{is_same, Image};
 use crate::words::Words;
 use flex::{Diskette, Reading, Refusal};
+use std::fmt::Display;
 use std::fs::{self, File, Metadata, OpenOptions};
 use std::io::{self, Write};
-use std::path::Path;
+use std::path::{Path, PathBuf};
 
 /// All files are read before the first is given, so that a refusal gives nothing.
 pub fn run(words: &Words) -> Result<(), Failure> {
@@ -24,8 +25,11 @@ pub fn run(words: &Words) -> Result<(), Failure> {
         readings.push(reading);
     }
     let own = image.metadata().map_err(|error| Failure::File(error.to_string()))?;
+    look_at_places(words, &pieces, &own)?;
+    // Whoever takes the bytes may be slow, and no change has to wait for that: the lock goes.
+    drop(image);
     for (piece, reading) in pieces.iter().zip(&readings) {
-        give(words, piece, trimmed(words, &reading.bytes), &own)?;
+        give(words, piece, trimmed(words, &reading.bytes))?;
     }
     // What is wrong has been said; the bytes are given, but not as if they were right.
     match all_sound {
@@ -84,29 +88,61 @@ fn trimmed<'a>(words: &Words, bytes: &'a [u8]) -> &'a [u8] {
     }
 }
 
-fn give(words: &Words, piece: &Piece, bytes: &[u8], image: &Metadata) -> Result<(), Failure> {
-    match &piece.file {
-        None => print(bytes),
-        Some(path) => write(path, bytes, words.has("--replace"), image)
-            .map_err(|why| Failure::File(format!("{}: {}", path.display(), why))),
+/// Where the files go is looked at before the first is written.
+fn look_at_places(words: &Words, pieces: &[Piece], image: &Metadata) -> Result<(), Failure> {
+    let mut places = Vec::new();
+    for path in pieces.iter().filter_map(|piece| piece.file.as_deref()) {
+        if let Some(why) = unfit(path, words.has("--replace"), image) {
+            return Err(unwritten(path, why));
+        }
+        let place = place(path);
+        if places.contains(&place) {
+            return Err(Failure::Usage(format!("{}: two files would be written to it", path.display())));
+        }
+        places.push(place);
     }
+    Ok(())
 }
 
 /// A file that is there stays unless it is to be replaced; the image itself is never written to.
-fn write(path: &Path, bytes: &[u8], replace: bool, image: &Metadata) -> Result<(), String> {
+fn unfit(path: &Path, replace: bool, image: &Metadata) -> Option<&'static str> {
     if fs::metadata(path).map_or(false, |there| is_same(&there, image)) {
-        return Err("this is the image itself".to_string());
+        return Some("this is the image itself");
     }
+    (!replace && fs::symlink_metadata(path).is_ok()).then_some(THERE)
+}
+
+const THERE: &str = "it is there already; --replace would replace it";
+
+/// The same for all paths that lead to one file, be it there or not.
+fn place(path: &Path) -> PathBuf {
+    let folder = path.parent().filter(|folder| *folder != Path::new("")).unwrap_or_else(|| Path::new("."));
+    let new = || Some(fs::canonicalize(folder).ok()?.join(path.file_name()?));
+    fs::canonicalize(path).ok().or_else(new).unwrap_or_else(|| path.to_path_buf())
+}
+
+fn unwritten(path: &Path, why: impl Display) -> Failure {
+    Failure::File(format!("{}: {}", path.display(), why))
+}
+
+fn give(words: &Words, piece: &Piece, bytes: &[u8]) -> Result<(), Failure> {
+    match &piece.file {
+        None => print(bytes),
+        Some(path) => write(path, bytes, words.has("--replace")),
+    }
+}
+
+fn write(path: &Path, bytes: &[u8], replace: bool) -> Result<(), Failure> {
     let opened = if replace { File::create(path) } else { OpenOptions::new().write(true).create_new(true).open(path) };
     let mut file = opened.map_err(|error| match error.kind() {
-        io::ErrorKind::AlreadyExists => "it is there already; --replace would replace it".to_string(),
-        _ => error.to_string(),
+        io::ErrorKind::AlreadyExists => unwritten(path, THERE),
+        _ => unwritten(path, error),
     })?;
     file.write_all(bytes).map_err(|error| {
         if !replace {
             // Made above, and not whole.
             let _ = fs::remove_file(path);
         }
-        error.to_string()
+        unwritten(path, error)
     })
 }

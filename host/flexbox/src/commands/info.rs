@@ -66,10 +66,14 @@ fn as_text(words: &Words, record: &Record, check: &Check) -> String {
         0 => "no sector".to_string(),
         count => format!("{} from {} to {}", plural(count as usize, "sector"), record.first_free, record.last_free),
     };
+    let files = match check.files() {
+        Some(files) => format!("{} in {} slots", files, check.slots.len()),
+        None => "not known: the slots can't be listed".to_string(),
+    };
     let census = check.verdict.map_or_else(|refusal| refusal.to_string(), |()| "accepted".to_string());
     format!(
         "image    {}, {} bytes\nshape    tracks 0 to {} (M), {} sectors a track (S): {} sectors, {} of them for files\n\
-         label    {}\nvolume   {}\nmade     {}\nfree     {}\nfiles    {} in {} slots\ncensus   {}\n",
+         label    {}\nvolume   {}\nmade     {}\nfree     {}\nfiles    {}\ncensus   {}\n",
         words.image().display(),
         sectors * flex::SECTOR,
         shape.last,
@@ -80,8 +84,7 @@ fn as_text(words: &Words, record: &Record, check: &Check) -> String {
         record.volume,
         record.made(),
         free,
-        check.files(),
-        check.slots.len(),
+        files,
         census
     )
 }
@@ -98,8 +101,8 @@ fn as_json(words: &Words, record: &Record, check: &Check) -> String {
         .with("free", record.free)
         .with("first_free", json::address(record.first_free))
         .with("last_free", json::address(record.last_free))
-        .with("files", check.files())
-        .with("slots", check.slots.len())
+        .with("files", json::number(check.files()))
+        .with("slots", json::number(check.files().map(|_| check.slots.len())))
         .with("census", check.verdict.map_or_else(Refusal::number, |()| 0))
         .end()
 }

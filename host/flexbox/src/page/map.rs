@@ -44,7 +44,8 @@ pub fn map(check: &Check, signs: &Signs, image: &[u8]) -> String {
 }
 
 const LEGEND: &str = "<p class=\"legend\"><span class=\"key file\">A</span> held by a file \
-    <span class=\"key\">·</span> free <span class=\"key system\">D</span> directory and system \
+    <span class=\"key\">·</span> free <span class=\"key lost\">?</span> not known to be in any chain \
+    <span class=\"key system\">D</span> directory and system \
     <span class=\"key bad\">!</span> damaged here. A row is a track, from 0 on; point at a sector to see who holds it.</p>\n";
 
 /// Numbers of sectors above, of tracks to the left.
@@ -167,7 +168,8 @@ fn told(cell: &Cell, check: &Check) -> String {
         lines.push(format!("{}, sector {} of {}", name, i, of));
     }
     if cell.system.is_none() && cell.holders.is_empty() {
-        lines.push("in no chain".to_string());
+        let why = if check.has_slots() { "in no chain" } else { "not free; its file is not known" };
+        lines.push(why.to_string());
     }
     if cell.system.map_or(true, |system| system == "directory") {
         lines.push(format!("links to {}", cell.link));

@@ -45,7 +45,7 @@ pub fn facts(record: &Record, check: &Check) -> String {
         ("Label", label.to_string()),
         ("Volume", record.volume.to_string()),
         ("Made", record.made()),
-        ("Files", check.files().to_string()),
+        ("Files", check.files().map_or("not known".to_string(), |files| files.to_string())),
         ("Free", format!("{} of {} sectors", free, all)),
     ];
     let mut text = String::from("<dl>\n");
@@ -63,7 +63,7 @@ pub fn findings(check: &Check) -> String {
     let mut text = String::from("<section>\n<h2>Census</h2>\n<ul class=\"rules\">\n");
     for (number, rule) in RULES {
         let broken: Vec<_> = check.findings.iter().filter(|finding| finding.number == number).collect();
-        let unknown = number != 42 && number != 44 && check.slots.is_empty();
+        let unknown = number != 42 && number != 44 && !check.has_slots();
         let (class, mark) = match (broken.is_empty(), unknown) {
             (false, _) => ("broken", "✗"),
             (true, true) => ("unknown", "?"),
@@ -96,7 +96,7 @@ pub fn directory(check: &Check, signs: &Signs) -> String {
     let live: Vec<(&Slot, &Entry)> =
         check.slots.iter().filter_map(|slot| slot.entry().map(|entry| (slot, entry))).collect();
     if live.is_empty() {
-        let why = if check.slots.is_empty() { "It can't be listed." } else { "There is no file." };
+        let why = if check.has_slots() { "There is no file." } else { "It can't be listed." };
         let _ = writeln!(text, "<p>{}</p>\n</section>", why);
         return text;
     }
