@@ -60,6 +60,19 @@ if [ -n "${CC:-}" ] && "$CC" -shared -fPIC -O1 "$here/witness.c" -o witness.so -
     [ "$status" = 3 ] || fail "status $status after get could not write"
     grep -q '^flexbox: part: No space left' err || fail "the file is not named: $(cat err)"
     [ ! -e part ] || fail "a part of a file is left"
+
+    # ---- and one that it was to replace stays
+    echo old >there
+    for failing in 1 2; do
+        witnessed WITNESS_FAIL=$failing -- get --replace disk NORTH.TXT=there
+        [ "$status" = 3 ] || fail "status $status after call $failing of get --replace failed"
+        [ "$(cat there)" = old ] || fail "the file that was to be replaced is lost"
+        left=$(find . -name '*.new')
+        [ -z "$left" ] || fail "left behind by get --replace: $left"
+    done
+    does get --replace disk NORTH.TXT=there
+    does get disk NORTH.TXT
+    cmp out there
 else
     echo "flexbox: no compiler here: the order of write, sync and rename was not tried"
 fi

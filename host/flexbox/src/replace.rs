@@ -30,8 +30,8 @@ pub fn replace(image: &Image, bytes: &[u8]) -> Result<(), String> {
     })
 }
 
-/// A file that was not there, with a name of its own. Only its owner may read it until it is the image.
-fn create_beside(folder: &Path) -> Result<(PathBuf, File), String> {
+/// A file that was not there, with a name of its own. Only its owner may read it until it is in place.
+pub fn create_beside(folder: &Path) -> Result<(PathBuf, File), String> {
     let mut number = 0;
     loop {
         let path = folder.join(format!(".flexbox-{}-{}.new", process::id(), number));

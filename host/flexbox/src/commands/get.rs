@@ -5,10 +5,11 @@ use super::{print, refused};
 use crate::check::{self, Check};
 use crate::failure::{note, Failure};
 use crate::image::{is_same, Image};
+use crate::replace::create_beside;
 use crate::words::Words;
 use flex::{Diskette, Reading, Refusal};
 use std::fmt::Display;
-use std::fs::{self, File, Metadata, OpenOptions};
+use std::fs::{self, Metadata, OpenOptions};
 use std::io::{self, Write};
 use std::path::{Path, PathBuf};
 
@@ -116,9 +117,12 @@ const THERE: &str = "it is there already; --replace would replace it";
 
 /// The same for all paths that lead to one file, be it there or not.
 fn place(path: &Path) -> PathBuf {
-    let folder = path.parent().filter(|folder| *folder != Path::new("")).unwrap_or_else(|| Path::new("."));
-    let new = || Some(fs::canonicalize(folder).ok()?.join(path.file_name()?));
+    let new = || Some(fs::canonicalize(folder(path)).ok()?.join(path.file_name()?));
     fs::canonicalize(path).ok().or_else(new).unwrap_or_else(|| path.to_path_buf())
+}
+
+fn folder(path: &Path) -> &Path {
+    path.parent().filter(|folder| *folder != Path::new("")).unwrap_or_else(|| Path::new("."))
 }
 
 fn unwritten(path: &Path, why: impl Display) -> Failure {
@@ -132,17 +136,34 @@ fn give(words: &Words, piece: &Piece, bytes: &[u8]) -> Result<(), Failure> {
     }
 }
 
+/// A file that is to be replaced stays whole until the new one is; what is no plain file (a device, a link) is written to.
 fn write(path: &Path, bytes: &[u8], replace: bool) -> Result<(), Failure> {
-    let opened = if replace { File::create(path) } else { OpenOptions::new().write(true).create_new(true).open(path) };
+    match fs::symlink_metadata(path) {
+        Ok(there) if replace && there.is_file() => put_over(path, &there, bytes),
+        Ok(_) if replace => fs::write(path, bytes).map_err(|error| unwritten(path, error)),
+        _ => write_new(path, bytes),
+    }
+}
+
+fn put_over(path: &Path, old: &Metadata, bytes: &[u8]) -> Result<(), Failure> {
+    let (new, mut file) = create_beside(folder(path)).map_err(Failure::File)?;
+    let filled = file.write_all(bytes).and_then(|()| file.set_permissions(old.permissions()));
+    filled.and_then(|()| fs::rename(&new, path)).map_err(|error| {
+        // Made above, and not in place.
+        let _ = fs::remove_file(&new);
+        unwritten(path, error)
+    })
+}
+
+fn write_new(path: &Path, bytes: &[u8]) -> Result<(), Failure> {
+    let opened = OpenOptions::new().write(true).create_new(true).open(path);
     let mut file = opened.map_err(|error| match error.kind() {
         io::ErrorKind::AlreadyExists => unwritten(path, THERE),
         _ => unwritten(path, error),
     })?;
     file.write_all(bytes).map_err(|error| {
-        if !replace {
-            // Made above, and not whole.
-            let _ = fs::remove_file(path);
-        }
+        // Made above, and not whole.
+        let _ = fs::remove_file(path);
         unwritten(path, error)
     })
 }
