@@ -18,11 +18,12 @@ pub fn run(words: &Words) -> Result<(), Failure> {
     let pieces = pieces(words)?;
     let image = Image::look(words.image(), words.wait())?;
     let mut diskette = Diskette::new(image.read()?);
+    let check = check::check(&mut diskette).map_err(refused(words.image(), "it can't be checked"))?;
     let mut readings = Vec::new();
     let mut all_sound = true;
     for piece in &pieces {
         let reading = diskette.get(&piece.name).map_err(refused(words.image(), &piece.shown))?;
-        all_sound &= vouch(words, &mut diskette, piece, &reading)?;
+        all_sound &= vouch(words, &check, piece, &reading)?;
         readings.push(reading);
     }
     let own = image.metadata().map_err(|error| Failure::File(error.to_string()))?;
@@ -40,9 +41,8 @@ pub fn run(words: &Words) -> Result<(), Failure> {
 }
 
 /// Whether the file is as its slot states and in no other chain. If not, only `--force` goes on.
-fn vouch(words: &Words, diskette: &mut Diskette, piece: &Piece, reading: &Reading) -> Result<bool, Failure> {
-    let check = check::check(diskette).map_err(refused(words.image(), &piece.shown))?;
-    let doubts = doubts(&check, reading);
+fn vouch(words: &Words, check: &Check, piece: &Piece, reading: &Reading) -> Result<bool, Failure> {
+    let doubts = doubts(check, reading);
     if let Some((refusal, _)) = doubts.first() {
         let texts: Vec<&str> = doubts.iter().map(|(_, text)| text.as_str()).collect();
         let failure = refused(words.image(), &format!("{}: {}", piece.shown, texts.join("; ")))(*refusal);
