@@ -153,7 +153,7 @@ make_archive() {
     mapfile -t crates < <(needed flex)
     count=${#crates[@]}
     mkdir -p "$root/target/log"
-    say "proving what is not proved yet of the service's $count crates, $jobs at a time (all of them: some 4 minutes on two idle cores);"
+    say "proving what is not proved yet of the service's $count crates, $jobs at a time (all of them: some 5 minutes on two cores);"
     say "all that rt says goes to target/log/archive"
     if ! (cd "$root" && RT_JOBS=$jobs rt check "${crates[@]:0:count-1}" 2>&1) | tee "$log" | progress "$count"; then
         die "not proved; target/log/archive has all that rt said"
