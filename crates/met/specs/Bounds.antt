@@ -3,9 +3,9 @@ use mathlib.Core.Path.{_≡_, refl, sym, ap, _∙_}
 use mathlib.Core.Logic.{_≢_}
 use mathlib.Core.Bool.{Bool, true, false}
 use mathlib.Core.List.{List, [], _∷_}
-use Prim.Native.Nat.{ℕ, zero, suc, _+_, _-_, _*_, _/_, _%_, _≤_, _<_}
+use Prim.Native.Nat.{ℕ, zero, suc, _+_, _-_, _*_, _/_, _≤_, _<_}
 use native.Mathlib.Omega.{arith}
-use native.Mathlib.Decide.{ℕ-discrete, decLt}
+use native.Mathlib.Decide.{ℕ-discrete}
 use lib.ListN.{length}
 use lib.Dec.{eqb, leb, ltb}
 use borrow.Author.Tests.{ltb-true, lt-ltb, le-ltb, lt-leb}
@@ -16,7 +16,6 @@ use Rattle.rules.specs.declared.Lookup.{Lookup}
 use Rattle.rules.specs.declared.Lookup.the-variants.{At}
 use Rattle.rules.specs.Directory.{member}
 use Rattle.rules.specs.Outcome.{Outcome, refuse, done, andThen, given, onImage, onBlock, settled}
-use Rattle.rules.specs.Block.{positionIn}
 use Rattle.laws.specs.Tests.{never, both, within-true}
 use Rattle.laws.specs.Each.{Each, each-append}
 use Rattle.laws.specs.Small.{Small}

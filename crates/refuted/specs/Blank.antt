@@ -4,10 +4,10 @@ use mathlib.Core.Bool.{true}
 use mathlib.Core.List.{List, [], _∷_}
 use Prim.Native.Nat.{ℕ, _+_, _*_}
 use Rattle.rules.specs.Bytes.{two, six, zeros}
-use Rattle.rules.specs.Stores.{Store, store, stored}
+use Rattle.rules.specs.Stores.{store, stored}
 use Rattle.rules.specs.All.{rules}
 use Rattle.laws.specs.Bytes.{length-zeros, zeros-at}
-use Rattle.demands.specs.Ledger.{Call, setting, asking}
+use Rattle.demands.specs.Ledger.{setting, asking}
 use Rattle.demands.specs.Service.{flex, Machine, log}
 use Rattle.demands.specs.Demands.{Start}
 use Rattle.refuted.specs.All.{demands}

@@ -1,23 +1,23 @@
 -- No fake meets the demands. Each is run on the start with two files, or on odd bytes, and a clause gives an equation of two numbers that
 -- differ; beside it, that ours passes the same clause at the same point.
 use mathlib.Core.Path.{_≡_, refl, sym, ap, _∙_}
-use mathlib.Core.Bool.{Bool, true, false}
-use mathlib.Core.List.{List, [], _∷_, _++_}
-use Prim.Native.Nat.{ℕ, zero, suc, _+_, _*_}
+use mathlib.Core.Bool.{false}
+use mathlib.Core.List.{List, [], _∷_}
+use Prim.Native.Nat.{ℕ}
 use native.Mathlib.Omega.{arith}
 use lib.Dec.{eqb}
 use lib.ListN.{length, getD}
 use borrow.Author.Tests.{eq-eqb}
 use Rattle.rules.specs.Bytes.{part, byteAt, over, one, zeros}
 use Rattle.rules.specs.Directory.{sizeAt}
-use Rattle.rules.specs.Outcome.{Out, out}
+use Rattle.rules.specs.Outcome.{Out}
 use Rattle.rules.specs.Census.{Survey, survey}
 use Rattle.rules.specs.All.{rules}
 use Rattle.laws.specs.Tests.{never}
 use Rattle.demands.specs.Ledger.{Call, setting, asking, file, entryOf, tableOf, fate, reply}
 use Rattle.demands.specs.Diskette.{ledgerNumbers, ledgerOwners}
 use Rattle.demands.specs.Service.{Service, flex, saysOf, leftOf, ansOf, imgOf, tabOf, answers, gave, next, run}
-use Rattle.demands.specs.Demands.{Lent, Asks, surveyAnswer, begun, told, wholly, Demand1, Demand2, Demand3, nameOf, ledgerAfter, ReadBack, Kept, WrittenTo, Created}
+use Rattle.demands.specs.Demands.{Lent, surveyAnswer, begun, told, wholly, Demand1, Demand2, Demand3, nameOf, ledgerAfter, ReadBack, Kept, WrittenTo, Created}
 use Rattle.demands.specs.Fakes.{withCall, refusing, deaf, idling, stuck, nodding, eager, counting, inventing, meddling, deleting, misextending, wiping, mislisting, misnoting, scrambling, stingy, swapping, booting, misplacing, stalling, purging, softening}
 use Rattle.refuted.specs.All.{demands}
 use Rattle.refuted.specs.Pair.{pairImage, pair, pair-start, paired}
