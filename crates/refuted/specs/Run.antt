@@ -14,7 +14,7 @@ use Rattle.laws.specs.Tests.{never}
 use Rattle.demands.specs.Ledger.{Call, setting, extending, asking, Ledger, Block, closed, listing, reading, writing, file, block, asks, activity, entryOf}
 use Rattle.demands.specs.Service.{flex, Machine, Entry, answers, gave, next, run, log}
 use Rattle.demands.specs.History.{Scene, history, scenes, hits, Unnamed, ahead}
-use Rattle.demands.specs.Demands.{lastTrackOf, perTrackOf, begun, told, past, Asks, Idle, inSlot, placeIn}
+use Rattle.demands.specs.Demands.{lastTrackOf, perTrackOf, begun, told, past, Asks, Idle, inSlot, placeIn, Sound}
 use Rattle.met.specs.Third.{demand3}
 use Rattle.refuted.specs.All.{demands}
 use Rattle.refuted.specs.Pair.{pair, pair-start, paired}
@@ -179,6 +179,11 @@ trial-rests = (refl, refl)
 abbrev pub end : Machine
 end = run flex pair trial
 
+-- every clause, of this run
+pub trial-sound : Sound flex pair trial
+trial-sound = demand3 pair pair-start trial
+
+-- what those that ask for something say, with what they ask for handed to them
 pub clauses : (gave flex end (asking 1 0) ≡ 11)
     × (part (next flex end (asking 3 0) .tab) 964 24 ≡ entryOf (file (told flex pair trial) 2))
     × (answers flex end (asking 4 0) ≡ 0)
@@ -186,7 +191,7 @@ pub clauses : (gave flex end (asking 1 0) ≡ 11)
     × (part (end .img) (placeIn pair 0) 24 ≡ part (pair .img) (placeIn pair 0) 24)
 unfolding within
 clauses =
-    let s = demand3 pair pair-start trial in
+    let s = trial-sound in
     let b = trial-busy in (
       s .readers 1 0 (b .reads .0) (b .reads .1) .1 ∙ b .reads .2,
       s .lists 3 0 2 (b .lists .0) (b .lists .1) (b .lists .2) .1,
