@@ -3,7 +3,8 @@
 use crate::pair::Checked;
 use crate::scene::Scene;
 use flex::{
-    ACTIVITY, BLOCK, BLOCKS, BUFFER, CLOSE, DRIVE, INDEX, NAME, NEW_NAME, NEXT_SLOT, PLACE, POSITION, SIZE, START,
+    Steps, ACTIVITY, BLOCK, BLOCKS, BUFFER, CLOSE, DELETE, DRIVE, END, INDEX, NAME, NEW_NAME, NEXT_SLOT, OPEN_READ,
+    OPEN_WRITE, PLACE, POSITION, RENAME, SIZE, START,
 };
 
 const ACTIVITIES: [u8; 10] = [0, 0, 1, 1, 2, 2, 16, 3, 17, 255];
@@ -94,7 +95,7 @@ impl Scene<'_> {
         let name = self.legal_name();
         let attributes = self.random.one_of(&[0, 0, 0, 64, 128, 192]);
         let (start, end, size) = (self.any_address(), self.any_address(), self.any_count());
-        self.pair.poke_image(slot, &name);
+        self.pair.poke_image(slot, name.bytes());
         self.pair.poke_image(slot + 11, &[attributes]);
         self.set_address(slot + 13, start);
         self.set_address(slot + 15, end);
@@ -163,7 +164,7 @@ impl Scene<'_> {
                 self.set_block(fcb, INDEX, &[index]);
             }
             3 => {
-                let (at, address) = (self.random.one_of(&[17, 19, 30, 64]), self.any_address());
+                let (at, address) = (self.random.one_of(&[START, END, POSITION, BUFFER]), self.any_address());
                 self.set_block_address(fcb, at, address);
             }
             4 => {
@@ -195,7 +196,7 @@ impl Scene<'_> {
     /// The block at another one's place.
     fn join(&mut self, fcb: usize) {
         let other = self.random.below(BLOCKS);
-        let place = self.block(other)[47..50].to_vec();
+        let place = self.block(other)[PLACE..PLACE + 3].to_vec();
         self.set_block(fcb, PLACE, &place);
     }
 
@@ -303,9 +304,9 @@ impl Scene<'_> {
         let idle = self.random.one_of(&[0, 0, 16]);
         let (name, new) = (self.name_at(slot), self.any_name());
         self.set_block(fcb, ACTIVITY, &[idle]);
-        self.set_block(fcb, NAME, &name);
-        self.set_block(fcb, NEW_NAME, &new);
-        let code = self.random.one_of(&[12, 12, 12, 13, 13, 1, 2]);
+        self.set_block(fcb, NAME, name.bytes());
+        self.set_block(fcb, NEW_NAME, new.bytes());
+        let code = self.random.one_of(&[DELETE, DELETE, DELETE, RENAME, RENAME, OPEN_READ, OPEN_WRITE]);
         self.ask(fcb, code)?;
         Ok(())
     }
@@ -326,7 +327,7 @@ impl Scene<'_> {
         self.invent_slot(slot);
         let name = Scene::numbered_name(self.random.below(1000));
         if self.random.chance(50) {
-            self.pair.poke_image(slot, &name);
+            self.pair.poke_image(slot, name.bytes());
         }
         slot
     }

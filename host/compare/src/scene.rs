@@ -1,14 +1,14 @@
-//! One diskette with its control blocks, and the small steps that the random runs are made of.
+//! One diskette with its control blocks, and the small steps that the random runs are made of. Those of a host are the
+//! wrapper's, [`Steps`]; here it is said what they do to the two services.
 
-use crate::pair::{Checked, Pair};
+use crate::pair::{Checked, Mismatch, Pair};
 use crate::random::Random;
-use flex::{ACTIVITY, BLOCK, BLOCKS, FUNCTION, INDEX, NEXT_BYTE};
+use flex::{Name, Steps, ACTIVITY, BLOCK, BLOCKS, FUNCTION, INDEX, NEXT_BYTE};
 
 pub type Address = (u8, u8);
-pub type Name = [u8; 11];
 
 /// Names that many files share, so that searches hit, and some of them differ in case or length alone.
-const NAMES: [&Name; 10] = [
+const NAMES: [&[u8; 11]; 10] = [
     b"A\0\0\0\0\0\0\0TXT",
     b"a\0\0\0\0\0\0\0TXT",
     b"A\0\0\0\0\0\0\0TX\0",
@@ -22,7 +22,7 @@ const NAMES: [&Name; 10] = [
 ];
 
 /// Names that are not legal, each for another reason.
-const ILLEGAL: [&Name; 14] = [
+const ILLEGAL: [&[u8; 11]; 14] = [
     b"9A\0\0\0\0\0\0TXT",
     b"\0\0\0\0\0\0\0\0TXT",
     b"A\0\0\0\0\0\0\0\0\0\0",
@@ -41,6 +41,9 @@ const ILLEGAL: [&Name; 14] = [
 
 /// Letters and the bytes around their ranges.
 const EDGES: &[u8] = b"\0-/09:@AZ[^_`az{\x7f\x80\xff";
+
+/// The activities of a block in which no file is open.
+pub const IDLE: &[u8] = &[0, 16];
 
 pub struct Scene<'a> {
     pub pair: Pair<'a>,
@@ -196,13 +199,13 @@ impl<'a> Scene<'a> {
             let slot = self.random.one_of(&live);
             return self.name_at(slot);
         }
-        *self.random.one_of(&NAMES)
+        Name::of(*self.random.one_of(&NAMES))
     }
 
     pub fn name_at(&self, slot: usize) -> Name {
         let mut name = [0; 11];
         name.copy_from_slice(&self.pair.image()[slot..slot + 11]);
-        name
+        Name::of(name)
     }
 
     /// A name that no file of the usual names has.
@@ -210,12 +213,12 @@ impl<'a> Scene<'a> {
         let mut name = *b"F\0\0\0\0\0\0\0NUM";
         let digits = format!("{}", number % 1000);
         name[1..1 + digits.len()].copy_from_slice(digits.as_bytes());
-        name
+        Name::of(name)
     }
 
     pub fn any_name(&mut self) -> Name {
         match self.random.below(20) {
-            0..=1 => *self.random.one_of(&ILLEGAL),
+            0..=1 => Name::of(*self.random.one_of(&ILLEGAL)),
             2 => self.name_of_edges(),
             3 => Scene::numbered_name(self.random.below(1000)),
             _ => self.legal_name(),
@@ -226,37 +229,14 @@ impl<'a> Scene<'a> {
         let mut name = *self.random.one_of(&NAMES);
         let at = self.random.below(11);
         name[at] = self.random.one_of(EDGES);
-        name
-    }
-
-    /// Eleven bytes into a block, as a host does it or at once.
-    pub fn give_name(&mut self, fcb: usize, at: usize, name: Name) -> Checked<()> {
-        if self.random.chance(10) {
-            for (i, &letter) in name.iter().enumerate() {
-                self.pair.preset(fcb, at + i, letter)?;
-            }
-        } else {
-            self.set_block(fcb, at, &name);
-        }
-        Ok(())
+        Name::of(name)
     }
 
     // Calls.
 
-    /// A function's code into byte 0, and the call.
-    pub fn ask(&mut self, fcb: usize, code: u8) -> Checked<u32> {
-        if self.random.chance(25) {
-            self.pair.preset(fcb, FUNCTION, code)?;
-        } else {
-            self.set_block(fcb, FUNCTION, &[code]);
-        }
-        let byte = self.random.byte();
-        self.pair.call(fcb, byte)
-    }
-
     /// Function 0 up to n times, until refused, and sometimes once again then.
     pub fn transfer(&mut self, fcb: usize, n: usize) -> Checked<()> {
-        self.set_block(fcb, FUNCTION, &[NEXT_BYTE]);
+        self.choose(fcb, NEXT_BYTE)?;
         let mut left = n;
         while left > 0 {
             let byte = self.random.byte();
@@ -297,5 +277,38 @@ impl<'a> Scene<'a> {
         let filler = self.random.byte();
         let image = self.pair.image().len();
         self.pair.census_lent(image, bytes, bytes, filler)
+    }
+}
+
+/// The entries on both services. A call gives the answer; a refusal ends no step, since what a host does that goes on all the
+/// same is to be compared too. Only a difference ends one.
+impl Steps for Scene<'_> {
+    type Given = u32;
+    type Failure = Mismatch;
+
+    /// By the entry, or at once where that would store the byte, too: it takes no call. In an open block the entry refuses all but
+    /// the function, and so it does here.
+    fn preset(&mut self, fcb: usize, offset: usize, value: u8) -> Checked<()> {
+        let is_allowed = offset == FUNCTION || IDLE.contains(&self.activity(fcb));
+        if is_allowed && self.random.chance(90) {
+            self.set_block(fcb, offset, &[value]);
+        } else {
+            self.pair.preset(fcb, offset, value)?;
+        }
+        Ok(())
+    }
+
+    /// Now and then left out, so that names without an extension are asked for too.
+    fn extension(&mut self, fcb: usize, code: usize) -> Checked<()> {
+        if self.random.chance(50) {
+            self.pair.extension(fcb, code)?;
+        }
+        Ok(())
+    }
+
+    /// Whatever byte a step gives, any is sent: a function that takes none must not look at it.
+    fn call(&mut self, fcb: usize, _: u8) -> Checked<u32> {
+        let byte = self.random.byte();
+        self.pair.call(fcb, byte)
     }
 }

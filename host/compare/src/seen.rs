@@ -1,7 +1,12 @@
 //! Situations: what the test looks at before and after a call to know that the places that are easy to get wrong were reached.
 //! This says nothing about right or wrong, only about what has been tried.
 
+use flex::{ACTIVITY, BUFFER, FUNCTION, INDEX, NAME, NEW_NAME, PLACE, POSITION, SIZE, START};
+
 type Address = (u8, u8);
+
+/// Where opening a file puts its 255: inside the new name.
+const COMPRESSION: usize = 59;
 
 const NONE: Address = (0, 0);
 
@@ -108,37 +113,37 @@ impl Seen {
         let count = free(33);
         let is_data = shape.map_or(false, |shape| shape.is_data(first));
         Some(Seen {
-            code: block[0],
-            activity: block[2],
+            code: block[FUNCTION],
+            activity: block[ACTIVITY],
             f,
             shape,
-            index: block[34],
-            position: address(block, 30),
-            start: address(block, 17),
-            size: word(block, 21),
-            link: address(block, 64),
-            place: triple(block, 47),
-            compression: block[59],
+            index: block[INDEX],
+            position: address(block, POSITION),
+            start: address(block, START),
+            size: word(block, SIZE),
+            link: address(block, BUFFER),
+            place: triple(block, PLACE),
+            compression: block[COMPRESSION],
             first,
             last: free(31),
             count: u16::from_be_bytes([count.0, count.1]),
             link_of_first: shape.filter(|_| is_data).map_or(NONE, |shape| address(image, shape.offset(first))),
-            named: shape.filter(|_| block[0] >= 12).and_then(|shape| named(image, shape, &block[4..15])),
-            own_name: block[4..15] == block[53..64],
+            named: shape.filter(|_| block[FUNCTION] >= 12).and_then(|shape| named(image, shape, &block[NAME..][..11])),
+            own_name: block[NAME..][..11] == block[NEW_NAME..][..11],
             firsts: shape
-                .filter(|_| block[0] == 2)
+                .filter(|_| block[FUNCTION] == 2)
                 .map_or(Vec::new(), |shape| shape.slots().map(|slot| (place(slot), image[slot])).collect()),
             image_len: image.len(),
         })
     }
 
     pub fn after(self, answer: u32, table: &[u8]) -> After {
-        let own = triple(table, self.f + 47);
+        let own = triple(table, self.f + PLACE);
         let place = self.named.as_ref().map_or(own, |slot| slot.place);
-        let others = (0..8)
-            .map(|i| i * 320)
-            .filter(|&f| f != self.f && triple(table, f + 47) == place)
-            .map(|f| table[f + 2])
+        let others = (0..flex::BLOCKS)
+            .map(|i| i * flex::BLOCK)
+            .filter(|&f| f != self.f && triple(table, f + PLACE) == place)
+            .map(|f| table[f + ACTIVITY])
             .collect();
         After { before: self, answer, place: own, others }
     }

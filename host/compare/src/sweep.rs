@@ -7,8 +7,8 @@ use crate::random::Random;
 use crate::scene::Scene;
 use crate::tally::Tally;
 use flex::{
-    ACTIVITY, BLOCK, CLOSE, DELETE, EXTENSION, INDEX, NAME, NEW_NAME, NEXT_SLOT, OPEN_DIRECTORY, OPEN_READ, OPEN_WRITE,
-    PLACE, POSITION, READ_SECTOR, TABLE,
+    Steps, ACTIVITY, BLOCK, CLOSE, DELETE, EXTENSION, INDEX, NAME, NEW_NAME, NEXT_BYTE, NEXT_SLOT, OPEN_DIRECTORY,
+    OPEN_READ, OPEN_WRITE, PLACE, POSITION, READ_SECTOR, RENAME, TABLE,
 };
 
 pub fn everything(tally: &mut Tally, seed: u64) -> Checked<()> {
@@ -57,10 +57,10 @@ fn letters(tally: &mut Tally) -> Checked<()> {
             for letter in 0..=255 {
                 let mut tried = *name;
                 tried[at] = letter;
-                pair.poke_table(0, &[1, 0, 0, 0]);
+                pair.poke_table(0, &[OPEN_READ, 0, 0, 0]);
                 pair.poke_table(NAME, &tried);
                 pair.call(0, 0)?;
-                pair.poke_table(0, &[13, 0, 0, 0]);
+                pair.poke_table(0, &[RENAME, 0, 0, 0]);
                 pair.poke_table(NAME, b"B\0\0\0\0\0\0\0TXT");
                 pair.poke_table(NEW_NAME, &tried);
                 pair.call(0, 0)?;
@@ -78,7 +78,7 @@ fn places(tally: &mut Tally) -> Checked<()> {
             for value in 0..=255 {
                 let mut place = right;
                 place[at] = value;
-                for start in [[7, 0, 16], [0, 0, 2], [4, 0, 2]] {
+                for start in [[NEXT_SLOT, 0, 16], [NEXT_BYTE, 0, 2], [CLOSE, 0, 2]] {
                     pair.poke_table(0, &[0; BLOCK]);
                     pair.poke_table(0, &start);
                     pair.poke_table(PLACE, &place);
@@ -95,7 +95,7 @@ fn attributes(tally: &mut Tally) -> Checked<()> {
     let mut pair = small(tally);
     let image = pair.image().to_vec();
     for attributes in 0..=255 {
-        for code in [12, 13, 1] {
+        for code in [DELETE, RENAME, OPEN_READ] {
             pair.poke_image(0, &image);
             pair.poke_image(4 * 256 + 16 + 11, &[attributes]);
             pair.poke_table(0, &[code, 0, 0, 0]);

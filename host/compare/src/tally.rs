@@ -1,6 +1,7 @@
 //! What the run has reached: each answer of each function, and the situations that are easy to get wrong.
 
 use crate::seen::{After, Surveyed, CALL_SITUATIONS, CENSUS_SITUATIONS};
+use flex::{ACTIVITY, FUNCTION};
 use std::fmt::Write;
 
 /// Each function with every answer that document 01 lets it give, in its order: each must occur, and no other may.
@@ -36,7 +37,7 @@ pub fn row_of_call(table: &[u8], fcb: usize) -> usize {
         return 4;
     }
     let block = &table[fcb * flex::BLOCK..];
-    match (block[0], block[2]) {
+    match (block[FUNCTION], block[ACTIVITY]) {
         (0, 1) => 6,
         (0, 2) => 7,
         (0, _) => 8,

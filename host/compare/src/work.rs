@@ -1,13 +1,11 @@
 //! What a host does: files written, read, deleted and renamed, the directory walked, and calls with wrong lengths and numbers.
 
 use crate::pair::Checked;
-use crate::scene::Scene;
+use crate::scene::{Scene, IDLE};
 use flex::{
-    BLOCK, BLOCKS, CLOSE, DATE, DELETE, DRIVE, EXTENSION, NAME, NEW_NAME, NEXT_SLOT, OPEN_DIRECTORY, OPEN_READ,
-    OPEN_WRITE, POSITION, READ_SECTOR, RENAME, REWIND, TABLE,
+    Steps, BLOCK, BLOCKS, CLOSE, DELETE, DRIVE, EXTENSION, NAME, NEW_NAME, NEXT_SLOT, OPEN_DIRECTORY, OPEN_WRITE,
+    POSITION, READ_SECTOR, RENAME, REWIND, TABLE,
 };
-
-const IDLE: &[u8] = &[0, 16];
 
 /// Numbers of blocks that do not exist; some of them times 320 wrap around to a small number.
 const NO_BLOCKS: [usize; 7] = [8, 9, 255, 256, usize::MAX, usize::MAX / BLOCK + 1, 1 << 32];
@@ -40,10 +38,8 @@ impl Scene<'_> {
     fn write_file(&mut self) -> Checked<()> {
         let fcb = self.block_with(IDLE);
         let name = self.any_name();
-        self.give_name(fcb, NAME, name)?;
         let date = [self.random.byte(), self.random.byte(), self.random.byte()];
-        self.set_block(fcb, DATE, &date);
-        if self.ask(fcb, OPEN_WRITE)? != 0 || self.random.chance(15) {
+        if self.create(fcb, &name, date)? != 0 || self.random.chance(15) {
             return Ok(());
         }
         if self.random.chance(90) {
@@ -65,8 +61,7 @@ impl Scene<'_> {
     fn read_file(&mut self) -> Checked<()> {
         let fcb = self.block_with(IDLE);
         let name = self.any_name();
-        self.give_name(fcb, NAME, name)?;
-        if self.ask(fcb, OPEN_READ)? == 0 && self.random.chance(80) {
+        if self.open(fcb, &name)? == 0 && self.random.chance(80) {
             let n = self.burst();
             self.transfer(fcb, n)?;
         }
@@ -85,8 +80,7 @@ impl Scene<'_> {
     fn delete_file(&mut self) -> Checked<()> {
         let fcb = self.block_with(IDLE);
         let name = self.any_name();
-        self.give_name(fcb, NAME, name)?;
-        self.ask(fcb, DELETE)?;
+        self.ask_of(fcb, DELETE, &name)?;
         Ok(())
     }
 
@@ -94,11 +88,10 @@ impl Scene<'_> {
         let fcb = self.block_with(IDLE);
         let old = self.any_name();
         let new = if self.random.chance(20) { old } else { self.any_name() };
-        self.give_name(fcb, NAME, old)?;
         if self.random.chance(90) {
-            self.give_name(fcb, NEW_NAME, new)?;
+            self.preset_all(fcb, NEW_NAME, new.bytes())?;
         }
-        self.ask(fcb, RENAME)?;
+        self.ask_of(fcb, RENAME, &old)?;
         Ok(())
     }
 
@@ -123,8 +116,7 @@ impl Scene<'_> {
     fn read_sector(&mut self) -> Checked<()> {
         let fcb = self.block_with(IDLE);
         let address = self.any_address();
-        self.pair.preset(fcb, POSITION, address.0)?;
-        self.pair.preset(fcb, POSITION + 1, address.1)?;
+        self.preset_all(fcb, POSITION, &[address.0, address.1])?;
         self.ask(fcb, READ_SECTOR)?;
         Ok(())
     }
@@ -173,7 +165,7 @@ impl Scene<'_> {
         let fcb = self.block_with(IDLE);
         let first = self.random.below(1000);
         for i in 0..10 * (self.per - 4) + 1 {
-            self.set_block(fcb, NAME, &Scene::numbered_name(first + i));
+            self.set_block(fcb, NAME, Scene::numbered_name(first + i).bytes());
             if self.ask(fcb, OPEN_WRITE)? != 0 {
                 break;
             }
@@ -190,7 +182,7 @@ impl Scene<'_> {
             let offset = self.random.below(80);
             let value = self.random.byte();
             // The drive is put right again, or every later call on the block would be refused for it.
-            self.pair.preset(fcb, offset, if offset == 3 { 0 } else { value })?;
+            self.pair.preset(fcb, offset, if offset == DRIVE { 0 } else { value })?;
         }
         if self.random.chance(50) {
             self.pair.preset(fcb, EXTENSION, 0)?;

@@ -7,7 +7,7 @@
 
 #![forbid(unsafe_code)]
 
-use flex::{Diskette, Name};
+use flex::{Diskette, Name, Steps};
 use std::error::Error;
 use std::io::{self, Write};
 

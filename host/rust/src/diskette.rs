@@ -1,7 +1,7 @@
 //! A diskette with its control blocks, and the file work that a host does with them.
 //!
-//! The small steps ([`Diskette::ask`], [`Diskette::call`], ..) take the number of a block; what does a whole job at once
-//! ([`Diskette::put`], [`Diskette::get`], ..) uses block 0 and leaves it closed.
+//! What does a whole job at once ([`Diskette::put`], [`Diskette::get`], ..) uses block 0 and leaves it closed; it is made of
+//! the small steps of [`Steps`], which take the number of a block.
 
 #![forbid(unsafe_code)]
 
@@ -9,14 +9,13 @@ use crate::layout::*;
 use crate::name::Name;
 use crate::refusal::Refusal;
 use crate::slot::{Entry, Slot};
+use crate::steps::Steps;
 use crate::survey::{survey, Held};
 
 /// The block that whole jobs use.
 const JOB: usize = 0;
-/// The code of the extension TXT, for a name that is given without one.
-const TXT: usize = 1;
 
-/// The image of a diskette and a table of eight control blocks.
+/// The image of a diskette and a table of eight control blocks. Its [`Steps`] end at the first refusal.
 #[derive(Clone, Debug, PartialEq, Eq)]
 pub struct Diskette {
     image: Vec<u8>,
@@ -63,76 +62,13 @@ impl Diskette {
         &self.table[fcb * BLOCK..(fcb + 1) * BLOCK]
     }
 
-    // Small steps.
-
-    /// Writes one byte of a block, where that is allowed.
-    pub fn preset(&mut self, fcb: usize, offset: usize, value: u8) -> Result<(), Refusal> {
-        crate::preset(&mut self.table, fcb, offset, value)
-    }
-
-    /// Writes some bytes of a block, one after the other.
-    pub fn preset_all(&mut self, fcb: usize, offset: usize, values: &[u8]) -> Result<(), Refusal> {
-        for (i, &value) in values.iter().enumerate() {
-            self.preset(fcb, offset + i, value)?;
-        }
-        Ok(())
-    }
-
-    /// Presets the name of a file, with TXT for an extension where it has none.
-    pub fn name(&mut self, fcb: usize, name: &Name) -> Result<(), Refusal> {
-        self.preset_all(fcb, NAME, name.bytes())?;
-        if !name.has_extension() {
-            crate::extension(&mut self.table, fcb, TXT)?;
-        }
-        Ok(())
-    }
-
-    /// Calls with the function that stands in byte 0 of the block; `byte` is what function 0 writes. Gives the byte read.
-    pub fn call(&mut self, fcb: usize, byte: u8) -> Result<u8, Refusal> {
-        crate::call(&mut self.image, &mut self.table, fcb, byte)
-    }
-
-    /// Calls with this function.
-    pub fn ask(&mut self, fcb: usize, function: u8) -> Result<(), Refusal> {
-        self.preset(fcb, FUNCTION, function)?;
-        self.call(fcb, 0)?;
-        Ok(())
-    }
-
-    /// Calls with this function on the file of this name.
-    pub fn ask_of(&mut self, fcb: usize, function: u8, name: &Name) -> Result<(), Refusal> {
-        self.name(fcb, name)?;
-        self.ask(fcb, function)
-    }
-
-    /// Opens a file for read.
-    pub fn open(&mut self, fcb: usize, name: &Name) -> Result<(), Refusal> {
-        self.ask_of(fcb, OPEN_READ, name)
-    }
-
-    /// Opens a new file for write.
-    pub fn create(&mut self, fcb: usize, name: &Name, date: [u8; 3]) -> Result<(), Refusal> {
-        self.preset_all(fcb, DATE, &date)?;
-        self.ask_of(fcb, OPEN_WRITE, name)
-    }
-
-    /// Sends bytes to a file that is open for write.
-    pub fn send(&mut self, fcb: usize, bytes: &[u8]) -> Result<(), Refusal> {
-        for &byte in bytes {
-            self.call(fcb, byte)?;
-        }
-        Ok(())
-    }
-
-    // Whole jobs.
-
     /// All slots of the directory in order.
     pub fn slots(&mut self) -> Result<Vec<Slot>, Refusal> {
         let mut slots = Vec::new();
         self.ask(JOB, OPEN_DIRECTORY)?;
         loop {
             match self.ask(JOB, NEXT_SLOT) {
-                Ok(()) => slots.push(Slot::shown(self.block(JOB), slots.len() + 1)),
+                Ok(_) => slots.push(Slot::shown(self.block(JOB), slots.len() + 1)),
                 Err(Refusal::End) => break,
                 Err(refusal) => {
                     self.ask(JOB, CLOSE)?;
@@ -151,7 +87,8 @@ impl Diskette {
     pub fn put(&mut self, name: &Name, bytes: &[u8], date: [u8; 3]) -> Result<(), Refusal> {
         self.create(JOB, name, date)?;
         self.send(JOB, bytes)?;
-        self.ask(JOB, CLOSE)
+        self.ask(JOB, CLOSE)?;
+        Ok(())
     }
 
     /// All bytes of a file. On a damaged diskette they need not be what was written: look at [`Reading::is_as_stated`].
@@ -176,13 +113,15 @@ impl Diskette {
 
     /// Deletes the file of this name; its sectors hang behind the free chain.
     pub fn delete(&mut self, name: &Name) -> Result<(), Refusal> {
-        self.ask_of(JOB, DELETE, name)
+        self.ask_of(JOB, DELETE, name)?;
+        Ok(())
     }
 
     /// All eleven bytes of the new name are preset: byte 59 lies among them, and every open sets that to 255.
     pub fn rename(&mut self, old: &Name, new: &Name) -> Result<(), Refusal> {
         self.preset_all(JOB, NEW_NAME, new.bytes())?;
-        self.ask_of(JOB, RENAME, old)
+        self.ask_of(JOB, RENAME, old)?;
+        Ok(())
     }
 
     /// The 256 bytes of a sector, a file's or not.
@@ -195,6 +134,24 @@ impl Diskette {
     /// The census: which chain holds each data sector.
     pub fn survey(&self) -> Result<Vec<Held>, Refusal> {
         survey(&self.image)
+    }
+}
+
+/// The entries on the diskette's own buffers. A call gives the byte read, else 0.
+impl Steps for Diskette {
+    type Given = u8;
+    type Failure = Refusal;
+
+    fn preset(&mut self, fcb: usize, offset: usize, value: u8) -> Result<(), Refusal> {
+        crate::preset(&mut self.table, fcb, offset, value)
+    }
+
+    fn extension(&mut self, fcb: usize, code: usize) -> Result<(), Refusal> {
+        crate::extension(&mut self.table, fcb, code)
+    }
+
+    fn call(&mut self, fcb: usize, byte: u8) -> Result<u8, Refusal> {
+        crate::call(&mut self.image, &mut self.table, fcb, byte)
     }
 }
 

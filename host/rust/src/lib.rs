@@ -16,6 +16,8 @@
 //! # }
 //! ```
 //!
+//! The small steps that these jobs are made of, on any block, are those of [`Steps`].
+//!
 //! [`preset`], [`extension`], [`call`], [`census`] and [`error_text`] are the five entries on buffers of the host's own, and
 //! [`entry`] has them with the archive's bare answers.
 
@@ -29,6 +31,7 @@ mod layout;
 mod name;
 mod refusal;
 mod slot;
+mod steps;
 mod survey;
 
 pub use diskette::{Diskette, Reading};
@@ -37,6 +40,7 @@ pub use name::{Name, NameTooLong};
 use refusal::settled;
 pub use refusal::Refusal;
 pub use slot::{Entry, Place, Slot, State};
+pub use steps::Steps;
 pub use survey::{survey, Held};
 
 /// The version of this crate, which is that of flex.h.

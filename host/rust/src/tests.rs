@@ -116,7 +116,7 @@ fn p9_rename_to_itself_and_to_another_name() {
     assert_eq!(five.rename(&name("A.TXT"), &name("A.TXT")), Err(Refusal::Exists));
     five.rename(&name("A.TXT"), &name("B.TXT")).unwrap();
     assert_eq!(five.open(0, &name("A.TXT")), Err(Refusal::NotFound));
-    assert_eq!(five.open(0, &name("B.TXT")), Ok(()));
+    assert_eq!(five.open(0, &name("B.TXT")), Ok(0));
 }
 
 #[test]
@@ -129,7 +129,7 @@ fn p10_delete_while_read() {
 
 #[test]
 fn p11_the_length_must_fit() {
-    assert_eq!(five().ask(0, OPEN_DIRECTORY), Ok(()));
+    assert_eq!(five().ask(0, OPEN_DIRECTORY), Ok(0));
     let mut short = Diskette::new(blank(1, 5)[..2559].to_vec());
     assert_eq!(short.ask(0, OPEN_DIRECTORY), Err(Refusal::Shape));
     assert_eq!(short.survey(), Err(Refusal::CensusShape));

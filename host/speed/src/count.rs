@@ -1,0 +1,51 @@
+//! One job, done once, inside a function by whose name a tool knows when to count: all that makes its diskette is outside.
+
+use crate::jobs::{half_full, outputs, to_fill, to_read, Buffers, Service, PLAIN, PROVED};
+
+/// A job with its buffers made ready.
+enum Job {
+    Census(Vec<u8>, [Vec<u8>; 2]),
+    Fill(Buffers),
+    Read(Buffers),
+}
+
+/// Does the job that the words of the command ask for. None: they are no words for a job.
+pub fn one(service: &str, job: &str, last: &str, per: &str) -> Option<()> {
+    let service = match service {
+        "proved" => PROVED,
+        "plain" => PLAIN,
+        _ => return None,
+    };
+    let last = last.parse().ok().filter(|last| (1..80).contains(last))?;
+    let per = per.parse().ok().filter(|per| (5..37).contains(per))?;
+    let mut job = ready(job, last, per)?;
+    let done = counted_job(service, &mut job);
+    assert_eq!(done, last * per * 252, "not all bytes were taken, given or surveyed");
+    Some(())
+}
+
+fn ready(job: &str, last: usize, per: usize) -> Option<Job> {
+    match job {
+        "census" => Some(Job::Census(half_full(last, per), outputs(last * per))),
+        "fill" => Some(Job::Fill(to_fill(last, per))),
+        "read" => {
+            let mut buffers = to_fill(last, per);
+            PROVED.fill(&mut buffers);
+            Some(Job::Read(to_read(buffers)))
+        }
+        _ => None,
+    }
+}
+
+/// How many bytes of files it went over. host/speed/counts names this function.
+#[inline(never)]
+fn counted_job(service: Service, job: &mut Job) -> usize {
+    match job {
+        Job::Census(image, lists) => {
+            service.survey(image, lists);
+            lists[0].len() / 2 * 252
+        }
+        Job::Fill(buffers) => service.fill(buffers),
+        Job::Read(buffers) => service.read(buffers),
+    }
+}

@@ -1,0 +1,123 @@
+//! What is measured: the two services, the jobs, and the diskettes that the jobs are done on. A shape is M×S, last track by
+//! sectors. Both services are called through a pointer to a function that is not inlined.
+
+use flex::{Diskette, Name, Refusal, Steps};
+
+type Call = fn(&mut [u8], &mut [u8], usize, u8) -> u32;
+type Census = fn(&[u8], &mut [u8], &mut [u8]) -> u32;
+
+#[derive(Clone, Copy)]
+pub struct Service {
+    call: Call,
+    census: Census,
+}
+
+#[inline(never)]
+fn plain_call(image: &mut [u8], table: &mut [u8], fcb: usize, byte: u8) -> u32 {
+    reference::call(image, table, fcb, byte)
+}
+
+#[inline(never)]
+fn plain_census(image: &[u8], sectors: &mut [u8], owners: &mut [u8]) -> u32 {
+    reference::census(image, sectors, owners)
+}
+
+#[inline(never)]
+fn proved_call(image: &mut [u8], table: &mut [u8], fcb: usize, byte: u8) -> u32 {
+    flex::entry::call(image, table, fcb, byte)
+}
+
+#[inline(never)]
+fn proved_census(image: &[u8], sectors: &mut [u8], owners: &mut [u8]) -> u32 {
+    flex::entry::census(image, sectors, owners)
+}
+
+pub const PLAIN: Service = Service { call: plain_call, census: plain_census };
+pub const PROVED: Service = Service { call: proved_call, census: proved_census };
+
+/// An image and a table.
+pub type Buffers = (Vec<u8>, Vec<u8>);
+
+impl Service {
+    /// Sends bytes that count up until no sector is left; how many were taken.
+    pub fn fill(&self, (image, table): &mut Buffers) -> usize {
+        let mut sent = 0usize;
+        while (self.call)(image, table, 0, sent as u8) == 0 {
+            sent += 1;
+        }
+        sent
+    }
+
+    /// Reads as long as they count up; how many did.
+    pub fn read(&self, (image, table): &mut Buffers) -> usize {
+        let mut fetched = 0usize;
+        while (self.call)(image, table, 0, 0) == fetched as u32 % 256 {
+            fetched += 1;
+        }
+        fetched
+    }
+
+    /// Takes the census of a diskette that has to be sound.
+    pub fn survey(&self, image: &[u8], [sectors, owners]: &mut [Vec<u8>; 2]) {
+        assert_eq!((self.census)(image, sectors, owners), 0, "the census refused");
+    }
+}
+
+const DATE: [u8; 3] = [12, 3, 81];
+
+/// Each block has a name of its own.
+fn name(fcb: usize) -> Name {
+    let mut name = *b"FILE-A\0\0DAT";
+    name[5] += fcb as u8;
+    Name::of(name)
+}
+
+/// The buffers after some work that is not measured, done by the proved service for both.
+fn worked((image, table): Buffers, work: impl FnOnce(&mut Diskette) -> Result<u8, Refusal>) -> Buffers {
+    let mut diskette = Diskette::of_buffers(image, table);
+    work(&mut diskette).expect("a blank diskette takes files");
+    diskette.into_buffers()
+}
+
+fn blank(last: usize, per: usize) -> Buffers {
+    (diskettes::blank(last, per), vec![0; flex::TABLE])
+}
+
+/// A blank diskette with a file open for write in block 0.
+pub fn to_fill(last: usize, per: usize) -> Buffers {
+    worked(blank(last, per), |diskette| diskette.create(0, &name(0), DATE))
+}
+
+/// That file, written by now, open for read.
+pub fn to_read(filled: Buffers) -> Buffers {
+    worked(filled, |diskette| {
+        diskette.ask(0, flex::CLOSE)?;
+        diskette.open(0, &name(0))
+    })
+}
+
+/// How many files the half-full diskette has.
+pub fn files(last: usize, per: usize) -> usize {
+    flex::BLOCKS.min(last * per / 2)
+}
+
+/// The image of a diskette with eight files written at the same time, so that their sectors alternate, until half of it is in
+/// use. Those that got no sector are deleted by their close.
+pub fn half_full(last: usize, per: usize) -> Vec<u8> {
+    let bytes: Vec<u8> = (0..252).collect();
+    let work = |diskette: &mut Diskette| {
+        for fcb in 0..flex::BLOCKS {
+            diskette.create(fcb, &name(fcb), DATE)?;
+        }
+        for sector in 0..last * per / 2 {
+            diskette.send(sector % flex::BLOCKS, &bytes)?;
+        }
+        (0..flex::BLOCKS).try_fold(0, |_, fcb| diskette.ask(fcb, flex::CLOSE))
+    };
+    worked(blank(last, per), work).0
+}
+
+/// The two outputs of a census.
+pub fn outputs(data_sectors: usize) -> [Vec<u8>; 2] {
+    [vec![0; 2 * data_sectors], vec![0; 2 * data_sectors]]
+}
