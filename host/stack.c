@@ -1,0 +1,142 @@
+/*
+ * Measures the stack that the service takes: stack CENSUS CALL ends with status 0 if a census takes less than CENSUS bytes and each
+ * call less than CALL. host/manual-test gives it the numbers that docs/HOST.md and flex.h state.
+ *
+ * The work is done by a thread on a stack of our own, painted before; the deepest byte that lost its paint was used. The census
+ * is taken of the largest diskette and of the smallest, and every function that is served is called.
+ */
+#include <pthread.h>
+#include <stdio.h>
+#include <stdlib.h>
+#include <string.h>
+
+#include "flex.h"
+
+enum { PAINT = 0xA5, STACK_BYTES = 64 * 1024, MOST_BYTES = 80 * 36 * 256, MOST_SECTORS = 79 * 36 };
+
+static uint8_t stack[STACK_BYTES] __attribute__((aligned(4096)));
+static const uint8_t *begin; /* where the stack stood when the entry was called */
+
+static uint8_t image[MOST_BYTES];
+static uint8_t table[FLEX_TABLE_BYTES];
+static uint8_t sectors[2 * MOST_SECTORS];
+static uint8_t owners[2 * MOST_SECTORS];
+static size_t last, per;
+static uint32_t answer;
+
+static size_t image_bytes(void) { return (last + 1) * per * 256; }
+
+/* As in docs/HOST.md, "From a blank image to a census", with a directory of one sector. */
+static void make_blank(size_t m, size_t s) {
+    size_t free_sectors = m * s;
+    size_t i;
+    uint8_t *information = image + 2 * 256;
+    last = m;
+    per = s;
+    memset(image, 0, sizeof image);
+    memset(table, 0, sizeof table);
+    for (i = 0; i + 1 < free_sectors; i++) {
+        image[(s + i) * 256] = (uint8_t)((i + 1) / s + 1);
+        image[(s + i) * 256 + 1] = (uint8_t)((i + 1) % s + 1);
+    }
+    information[29] = 1;
+    information[30] = 1;
+    information[31] = (uint8_t)m;
+    information[32] = (uint8_t)s;
+    information[33] = (uint8_t)(free_sectors / 256);
+    information[34] = (uint8_t)(free_sectors % 256);
+    information[38] = (uint8_t)m;
+    information[39] = (uint8_t)s;
+}
+
+static void *census(void *unused) {
+    begin = __builtin_frame_address(0);
+    answer = flex_census(image, image_bytes(), sectors, 2 * last * per, owners, 2 * last * per);
+    return unused;
+}
+
+static void *call(void *unused) {
+    begin = __builtin_frame_address(0);
+    answer = FLEX_ANSWER(flex_call(image, image_bytes(), table, sizeof table, 0, 'A'));
+    return unused;
+}
+
+/* The bytes that the work takes below the frame of its thread's function. The answer must be 0. */
+static size_t used(void *(*work)(void *), const char *what) {
+    pthread_t thread;
+    pthread_attr_t attributes;
+    size_t deepest = 0;
+    memset(stack, PAINT, sizeof stack);
+    if (pthread_attr_init(&attributes) != 0 || pthread_attr_setstack(&attributes, stack, sizeof stack) != 0 ||
+        pthread_create(&thread, &attributes, work, NULL) != 0 || pthread_join(thread, NULL) != 0) {
+        fprintf(stderr, "stack: no thread could be made\n");
+        exit(2);
+    }
+    if (answer != FLEX_DONE) {
+        fprintf(stderr, "stack: %s was refused with %lu\n", what, (unsigned long)answer);
+        exit(2);
+    }
+    while (stack[deepest] == PAINT) {
+        deepest++;
+    }
+    return (size_t)(begin - (stack + deepest));
+}
+
+static size_t larger(size_t a, size_t b) { return a > b ? a : b; }
+
+/* One function on block 0, by these eleven bytes of name and of new name, at 1,1. In an open block these presets are refused. */
+static size_t asked(uint8_t code, const char *name, const char *new_name) {
+    size_t i;
+    flex_preset(table, sizeof table, 0, FLEX_FUNCTION, code);
+    for (i = 0; i < 11; i++) {
+        flex_preset(table, sizeof table, 0, FLEX_NAME + i, (uint8_t)name[i]);
+        flex_preset(table, sizeof table, 0, FLEX_NEW_NAME + i, (uint8_t)new_name[i]);
+    }
+    flex_preset(table, sizeof table, 0, FLEX_POSITION, 1);
+    flex_preset(table, sizeof table, 0, FLEX_POSITION + 1, 1);
+    return used(call, "a call");
+}
+
+/* The most that a call takes, of all functions. 253 bytes are two sectors: a first one, a buffer stored, and a further one. */
+static size_t calls(void) {
+    static const struct {
+        uint8_t code;
+        int times;
+    } jobs[] = {
+        {FLEX_OPEN_WRITE, 1},     {FLEX_NEXT_BYTE, 253}, {FLEX_CLOSE, 1},
+        {FLEX_OPEN_READ, 1},      {FLEX_NEXT_BYTE, 253}, {FLEX_REWIND, 1},      {FLEX_CLOSE, 1},
+        {FLEX_OPEN_DIRECTORY, 1}, {FLEX_NEXT_SLOT, 2},   {FLEX_READ_SECTOR, 1}, {FLEX_RENAME, 1},
+    };
+    size_t most = 0;
+    size_t i;
+    int n;
+    for (i = 0; i < sizeof jobs / sizeof jobs[0]; i++) {
+        for (n = 0; n < jobs[i].times; n++) {
+            most = larger(most, asked(jobs[i].code, "A\0\0\0\0\0\0\0TXT", "B\0\0\0\0\0\0\0TXT"));
+        }
+    }
+    return larger(most, asked(FLEX_DELETE, "B\0\0\0\0\0\0\0TXT", "C\0\0\0\0\0\0\0TXT"));
+}
+
+/* Says and gives whether the work takes less than is stated. */
+static int is_less(const char *what, size_t bytes, const char *stated) {
+    printf("stack: %s takes %lu bytes, stated is less than %s\n", what, (unsigned long)bytes, stated);
+    return bytes < strtoul(stated, NULL, 10);
+}
+
+int main(int argc, char **argv) {
+    size_t of_census, of_calls;
+    if (argc != 3) {
+        fprintf(stderr, "usage: stack CENSUS CALL\n");
+        return 2;
+    }
+    make_blank(1, 5);
+    /* The first census is not measured: in it the loader finds memset, on the same stack. */
+    used(census, "a census");
+    of_census = used(census, "a census");
+    of_calls = calls();
+    make_blank(79, 36);
+    of_census = larger(of_census, used(census, "a census"));
+    of_calls = larger(of_calls, calls());
+    return is_less("a census", of_census, argv[1]) & is_less("a call", of_calls, argv[2]) ? 0 : 1;
+}
