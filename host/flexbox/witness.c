@@ -1,15 +1,30 @@
 /*
- * Preloaded under flexbox by scenes/60-durable.sh. It writes the calls that put an image in place to the file that WITNESS_LOG
- * names, a line each. Before the WITNESS_STOP-th of them it ends the process, as a cut of power would; the WITNESS_FAIL-th it
- * does not make but lets fail.
+ * Preloaded under flexbox by the scenes that need to see its system calls, or to come between two of them.
+ *
+ * Each call on a file is a line in the file that WITNESS_LOG names: open, lock or share, read, and those that put an image in
+ * place: write, sync, rename. Of these last, the WITNESS_STOP-th ends the process before it is made, as a cut of power would;
+ * the WITNESS_FAIL-th is not made, but fails.
+ *
+ * WITNESS_AT_OPEN and WITNESS_AT_LOCK hold renames, "FROM TO FROM TO ..", which another program makes just before the first file is
+ * opened, or the first lock asked for. With WITNESS_NO_LOCKS the file system has no locks.
  */
 #define _GNU_SOURCE
 #include <dlfcn.h>
 #include <errno.h>
+#include <fcntl.h>
+#include <stdarg.h>
 #include <stdio.h>
 #include <stdlib.h>
 #include <string.h>
+#include <sys/file.h>
 #include <unistd.h>
+
+typedef int (*open_call)(const char *, int, ...);
+typedef int (*lock_call)(int, int);
+typedef ssize_t (*read_call)(int, void *, size_t);
+typedef ssize_t (*write_call)(int, const void *, size_t);
+typedef int (*sync_call)(int);
+typedef int (*rename_call)(const char *, const char *);
 
 static int calls;
 
@@ -23,50 +38,114 @@ static const char *last_part(const char *path) {
     return slash && slash[1] ? slash + 1 : path;
 }
 
-/* Notes one call. Not 0: it is to fail. */
-static int noted(const char *what, const char *path) {
+static void logged(const char *what, const char *path) {
     FILE *log = fopen(getenv("WITNESS_LOG"), "a");
-    calls++;
-    if (calls == number("WITNESS_STOP")) _exit(99);
     if (log) {
         fprintf(log, "%s %s\n", what, last_part(path));
         fclose(log);
     }
-    return calls == number("WITNESS_FAIL");
 }
 
-static int noted_open(const char *what, int file) {
-    char link[64], path[4096];
+/* Where an open file is. */
+static const char *path_of(int file) {
+    static char path[4096];
+    char link[64];
     ssize_t length;
     snprintf(link, sizeof link, "/proc/self/fd/%d", file);
     length = readlink(link, path, sizeof path - 1);
     path[length > 0 ? length : 0] = 0;
-    return noted(what, path);
+    return path;
+}
+
+/* Notes a call that puts an image in place. Not 0: it is to fail. */
+static int noted(const char *what, const char *path) {
+    calls++;
+    if (calls == number("WITNESS_STOP")) _exit(99);
+    logged(what, path);
+    return calls == number("WITNESS_FAIL");
+}
+
+/* What another program does meanwhile, once. */
+static void meanwhile(const char *variable) {
+    rename_call real = (rename_call)dlsym(RTLD_NEXT, "rename");
+    const char *given = getenv(variable);
+    char *moves, *from, *to;
+    if (!given) return;
+    moves = strdup(given);
+    unsetenv(variable);
+    for (from = strtok(moves, " "); from && (to = strtok(NULL, " ")); from = strtok(NULL, " ")) {
+        if (real(from, to)) _exit(98);
+    }
+    free(moves);
+}
+
+/* Whether somebody, flexbox too, has the exclusive lock on the file there. */
+static int is_locked(const char *path) {
+    open_call open_file = (open_call)dlsym(RTLD_NEXT, "open");
+    lock_call lock = (lock_call)dlsym(RTLD_NEXT, "flock");
+    int file = open_file(path, O_RDONLY | O_NONBLOCK);
+    int refused = file >= 0 && lock(file, LOCK_SH | LOCK_NB) != 0;
+    if (file >= 0) close(file);
+    return refused;
+}
+
+static int opened(const char *name, const char *path, int flags, int mode) {
+    meanwhile("WITNESS_AT_OPEN");
+    if (!(flags & O_CREAT)) logged("open", path);
+    return ((open_call)dlsym(RTLD_NEXT, name))(path, flags, mode);
+}
+
+/* The mode stands behind the flags where a file may be made, and only there. */
+#define OPEN(name)                                \
+    int name(const char *path, int flags, ...) {  \
+        int mode = 0;                             \
+        if (flags & O_CREAT) {                    \
+            va_list rest;                         \
+            va_start(rest, flags);                \
+            mode = va_arg(rest, int);             \
+            va_end(rest);                         \
+        }                                         \
+        return opened(#name, path, flags, mode);  \
+    }
+
+OPEN(open)
+OPEN(open64)
+
+int flock(int file, int operation) {
+    meanwhile("WITNESS_AT_LOCK");
+    logged(operation & LOCK_EX ? "lock" : "share", path_of(file));
+    if (number("WITNESS_NO_LOCKS")) {
+        errno = ENOLCK;
+        return -1;
+    }
+    return ((lock_call)dlsym(RTLD_NEXT, "flock"))(file, operation);
+}
+
+ssize_t read(int file, void *bytes, size_t count) {
+    if (file > 2) logged("read", path_of(file));
+    return ((read_call)dlsym(RTLD_NEXT, "read"))(file, bytes, count);
 }
 
 ssize_t write(int file, const void *bytes, size_t count) {
-    ssize_t (*real)(int, const void *, size_t) = (ssize_t(*)(int, const void *, size_t))dlsym(RTLD_NEXT, "write");
-    if (file > 2 && noted_open("write", file)) {
+    if (file > 2 && noted("write", path_of(file))) {
         errno = ENOSPC;
         return -1;
     }
-    return real(file, bytes, count);
+    return ((write_call)dlsym(RTLD_NEXT, "write"))(file, bytes, count);
 }
 
 int fsync(int file) {
-    int (*real)(int) = (int (*)(int))dlsym(RTLD_NEXT, "fsync");
-    if (noted_open("sync", file)) {
+    if (noted("sync", path_of(file))) {
         errno = EIO;
         return -1;
     }
-    return real(file);
+    return ((sync_call)dlsym(RTLD_NEXT, "fsync"))(file);
 }
 
 int rename(const char *from, const char *to) {
-    int (*real)(const char *, const char *) = (int (*)(const char *, const char *))dlsym(RTLD_NEXT, "rename");
-    if (noted("rename", to)) {
+    if (noted(is_locked(to) ? "rename" : "rename unlocked", to)) {
         errno = EIO;
         return -1;
     }
-    return real(from, to);
+    return ((rename_call)dlsym(RTLD_NEXT, "rename"))(from, to);
 }

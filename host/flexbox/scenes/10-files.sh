@@ -97,6 +97,21 @@ refuses 2 "several files need" put disk A.TXT B.TXT
 refuses 2 "named twice" put disk A.TXT=one A=two
 refuses 3 "nowhere" put disk A.TXT=nowhere
 
+# ---- a '=' in a path: with --files the whole word is the path, without them the first '=' ends the name
+mkdir day=3 3
+printf 'right\n' >day=3/EQUAL.TXT
+printf 'wrong\n' >3/EQUAL.TXT
+does put --files disk day=3/EQUAL.TXT
+does put disk SIGN.TXT=day=3/EQUAL.TXT
+does get --trim disk EQUAL.TXT=equal SIGN.TXT=sign=
+cmp equal day=3/EQUAL.TXT
+cmp sign= day=3/EQUAL.TXT
+refuses 2 "'logs/A=B.TXT': with --files each word is a FILE" put --files disk logs/A=B.TXT
+refuses 2 "'ONE.TXT=seven': with --files each word is a FILE" get --files disk ONE.TXT=seven
+[ ! -e seven ] || fail "a refused get made a file"
+refuses 2 "'ONE.TXT=': no FILE follows" get disk ONE.TXT=
+refuses 2 "'NEW.TXT=': no FILE follows" put disk NEW.TXT=
+
 # ---- a file is replaced, and stays where the new one finds no room or may not replace it
 does put --replace disk ONE.TXT <lines
 does get --trim disk ONE.TXT

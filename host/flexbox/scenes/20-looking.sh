@@ -39,12 +39,26 @@ shows '"slot":2,"directory_sector":[0,5],"displacement":40,"name":"NORTH.TXT","s
 does census --json disk
 shows '{"sector":[2,8],"owner":0}'
 shows '{"sector":[1,6],"owner":2}'
+for command in list info check census; do
+    does "$command" --json disk
+    [ "$(wc -l <out)" = 1 ] || fail "$command --json is not one line"
+done
+
+# ---- check has a pass for each rule of the census, and says that it is clean
+does check disk
+[ "$(grep -c '^Pass [1-5]: ' out)" = 5 ] || fail "not five passes: $(cat out)"
+[ "$(tail -n 1 out)" = "disk: clean, 3 files, 13 of 32 sectors used, 19 free" ] || fail "the last line: $(tail -n 1 out)"
 
 # ---- what is no diskette
 head -c 1000 "$demo" >disk
 refuses 1 "DISK ERROR #016" list disk
 refuses 1 "DISK ERROR #041" census disk
+ends 1 "DISK ERROR #041" census --json disk
+shows '"verdict":41,"sectors":[]}'
 refuses 1 "DISK ERROR #041" check disk
+refuses 1 "DISK ERROR #041" check --json disk
+refuses 1 "DISK ERROR #016" info --json disk
+refuses 1 "DISK ERROR #016" list --json disk
 refuses 1 "DISK ERROR #041" put disk A.TXT <"$demo"
 refuses 1 "DISK ERROR #041" put --force disk A.TXT <"$demo"
 : >disk
@@ -62,8 +76,8 @@ fresh
 does help
 shows "usage:"
 does --version
-shows "flexbox "
-for command in list info check census get put delete rename dump report; do
+grep -qx 'flexbox [0-9]*\.[0-9]*\.[0-9]*, flex [0-9]*\.[0-9]*\.[0-9]*' out || fail "the version: $(cat out)"
+for command in list info check census get put delete rename dump report demo; do
     does help "$command"
     shows "usage: flexbox $command "
     does "$command" --help
@@ -84,7 +98,6 @@ refuses 2 "wrong number of words" rename disk NORTH.TXT
 refuses 2 "no such option '--all'" get --all disk NORTH.TXT
 refuses 2 "no such option '--force'" list --force disk
 refuses 2 "number of seconds" list --wait soon disk
-[ "$(wc -l <err)" = 1 ] || fail "a usage error has more than one line"
 refuses 2 "at most 8 characters" get disk NINECHARS.TXT
 refuses 2 "at most 3" delete disk A.TEXT
 refuses 2 "standard input is empty" put disk A.TXT </dev/null

@@ -2,14 +2,22 @@
 
 printf 'bytes\n' >lines
 
+# told NUMBER ARGUMENT..: refused, with what is wrong and where
+told() {
+    local number=$1
+    shift
+    refuses 1 "DISK ERROR #0$number" "$@"
+    grep -q "^  $number .* [0-9]*,[0-9]" err || fail "not said where: $*: $(cat err)"
+}
+
 # unchanged NUMBER: no command changes the diskette, which the census refuses so
 unchanged() {
-    refuses 1 "DISK ERROR #0$1" put disk NEW.TXT <lines
+    told "$1" put disk NEW.TXT <lines
     says "--force would change it"
-    refuses 1 "DISK ERROR #0$1" put --replace disk NORTH.TXT <lines
-    refuses 1 "DISK ERROR #0$1" delete disk POWER.TXT
-    refuses 1 "DISK ERROR #0$1" rename disk POWER.TXT A.TXT
-    refuses 1 "DISK ERROR #0$1" census disk
+    told "$1" put --replace disk NORTH.TXT <lines
+    told "$1" delete disk POWER.TXT
+    told "$1" rename disk POWER.TXT A.TXT
+    told "$1" census disk
     ends 1 "" check disk
     shows "DAMAGED"
     shows "DISK ERROR #0$1"
@@ -73,6 +81,7 @@ fresh
 patch $((4 * 256)) 0 4
 unchanged 42
 refuses 1 "DISK ERROR #005" list disk
+refuses 1 "DISK ERROR #005" list --json disk
 ends 1 "" check disk
 shows "42 directory: its sector 0,5 links to 0,4, which is not on track 0 in sectors 5 to 8"
 
@@ -121,5 +130,18 @@ says "saved by --force; its census: 045"
 does list disk
 shows NEW.TXT
 warns "damaged, and changed all the same by --force" delete --force disk NORTH.TXT
+warns "damaged, and changed all the same by --force" rename --force disk NEW.TXT OLD.TXT
+warns "damaged, and changed all the same by --force" put --replace --force disk OLD.TXT <lines
+does info disk
 fresh
 does put --force disk NEW.TXT <lines
+
+# ---- of a diskette with very many faults eight are told, and how many more there are: slots 1 to 9 are one file
+fresh
+for i in $(seq 1 9); do dd if="$demo" of=disk bs=1 skip="$(slot 2)" seek="$(slot "$i")" count=24 conv=notrunc status=none; done
+refuses 1 "DISK ERROR #043" put disk NEW.TXT <lines
+[ "$(grep -c '^  4' err)" = 8 ] || fail "not eight findings: $(cat err)"
+says "  and 2 more: flexbox check disk"
+ends 1 "" check disk
+shows "disk: DAMAGED, 10 findings: DISK ERROR #043"
+shows "and by NORTH.TXT (slot 8, at 0,5 byte 184) and by 1 more"

@@ -2,6 +2,28 @@
 
 printf 'bytes\n' >lines
 
+# closed_folder [AS..]: an image in a folder where its user may make no file, or which he may not read; flexbox runs as that user
+closed_folder() {
+    # ---- who may not sync the folder does not change it
+    "$@" mkdir closed
+    "$@" cp "$demo" closed/disk
+    chmod 644 closed/disk
+    chmod 300 closed
+    refuses 3 "closed: it could not be synced" put closed/disk NEW.TXT <lines
+
+    # ---- who may make no new file there hears of the image, and not of a file that he does not know
+    chmod 500 closed
+    refuses 3 "flexbox: closed/disk: not changed: a new image can't be made in its folder: Permission denied" \
+        put closed/disk NEW.TXT <lines
+    cmp closed/disk "$demo"
+    chmod 700 closed
+    "$@" touch closed/there
+    chmod 500 closed
+    refuses 3 "flexbox: closed/there: a new file can't be made beside it: Permission denied" \
+        get --replace closed/disk NORTH.TXT=closed/there
+    chmod 700 closed
+}
+
 # ---- a link stays a link, the mode stays, and nothing is left behind
 fresh
 chmod 640 disk
@@ -36,18 +58,13 @@ if [ "$(id -u)" = 0 ]; then
         refuses 3 "disk: Permission denied" put disk NEW.TXT <lines
         does list disk
 
-        # ---- who may not sync the folder does not change it
-        "${other[@]}" mkdir closed
-        "${other[@]}" cp "$demo" closed/disk
-        chmod 644 closed/disk
-        chmod 300 closed
-        refuses 3 "closed: it could not be synced" put closed/disk NEW.TXT <lines
-        cmp closed/disk "$demo"
+        closed_folder "${other[@]}"
         flexbox=("${flexbox[@]:${#other[@]}}")
     else
-        echo "flexbox: another user can't run it here: that an owner who can't be kept is a refusal was not tried"
+        echo "flexbox: another user can't run it here: an owner who can't be kept and a folder that can't be written were not tried"
     fi
 else
+    closed_folder
     echo "flexbox: not root: that another owner of an image is kept was not tried"
 fi
 
@@ -74,6 +91,16 @@ refuses 3 "/dev/zero: more than 737,280 bytes" put disk ZERO.TXT=/dev/zero
 refuses 3 "/dev/zero: not a regular file" list /dev/zero
 refuses 3 "/dev/zero: not a regular file" put /dev/zero A.TXT <lines
 mkfifo pipe
+yes >pipe 2>/dev/null &
+refuses 3 "standard input: more than 737,280 bytes" put disk YES.TXT <pipe
+yes >pipe 2>/dev/null &
+refuses 3 "pipe: more than 737,280 bytes" put disk YES.TXT=pipe
+wait
+cat lines >pipe &
+does put disk PIPE.TXT <pipe
+wait
+does get --trim disk PIPE.TXT
+cmp out lines
 refuses 3 "pipe: not a regular file" list pipe
 refuses 3 "pipe: not a regular file" put pipe A.TXT <lines
 mkdir folder

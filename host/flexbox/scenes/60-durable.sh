@@ -1,36 +1,21 @@
 # A new image is on the disk before it takes the old one's place, and a cut or a failure at any moment leaves the old image or the
 # new one. witness.c, preloaded, sees the calls and makes them fail.
 
-if [ -n "${CC:-}" ] && "$CC" -shared -fPIC -O1 "$here/witness.c" -o witness.so -ldl; then
-    # witnessed VARIABLE=VALUE.. -- ARGUMENT..: flexbox with the witness; its status is in 'status'
-    witnessed() {
-        local with=() emulated=()
-        rm -f log
-        while [ "$1" != -- ]; do with+=("$1") && shift; done
-        shift
-        status=0
-        with+=("WITNESS_LOG=$PWD/log")
-        if [ ${#flexbox[@]} = 1 ]; then
-            env "${with[@]}" LD_PRELOAD="$PWD/witness.so" "${flexbox[@]}" "$@" >out 2>err || status=$?
-        else
-            emulated=("${flexbox[0]}" -E "LD_PRELOAD=$PWD/witness.so" "${flexbox[@]:1}")
-            env "${with[@]}" "${emulated[@]}" "$@" >out 2>err || status=$?
-        fi
-        checks=$((checks + 1))
-    }
-
+if [ -n "$witness" ]; then
     fresh
     cp disk old
     does delete disk NORTH.TXT
     cp disk new
 
-    # ---- written, synced, renamed, the folder synced, and nothing else
+    # ---- locked, read, written, synced, renamed while it is locked, the folder synced, and nothing else
     fresh
     witnessed -- delete disk NORTH.TXT
     [ "$status" = 0 ] || fail "failed under the witness: $(cat err)"
     cmp disk new
-    sed 's/\.flexbox-[0-9]*-[0-9]*\.new/NEW/' log | tr '\n' ' ' >calls
-    [ "$(cat calls)" = "write NEW sync NEW rename disk sync $(basename "$PWD") " ] || fail "calls: $(cat calls)"
+    sed 's/\.flexbox-[0-9]*-[0-9]*\.new/NEW/' log | uniq | tr '\n' ' ' >calls
+    folder=$(basename "$PWD")
+    [ "$(cat calls)" = "open disk lock disk read disk open $folder write NEW sync NEW rename disk sync $folder " ] ||
+        fail "calls: $(cat calls)"
 
     # ---- cut before each of them
     for stop in 1 2 3 4; do
@@ -52,7 +37,11 @@ if [ -n "${CC:-}" ] && "$CC" -shared -fPIC -O1 "$here/witness.c" -o witness.so -
     done
     fresh
     witnessed WITNESS_FAIL=1 -- rename disk NORTH.TXT NEW.TXT
-    grep -q '\.flexbox-.*\.new: No space left' err || fail "the new file is not named: $(cat err)"
+    says "flexbox: disk: not changed: the new image could not be written beside it: No space left"
+    fresh
+    witnessed WITNESS_FAIL=3 -- rename disk NORTH.TXT NEW.TXT
+    says "flexbox: disk: "
+    ! grep -F .flexbox- err || fail "a file that is gone is named"
 
     # ---- of a file that get could not write whole nothing is left
     fresh

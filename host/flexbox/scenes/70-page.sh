@@ -1,4 +1,4 @@
-# The page that `report` makes, in a browser where there is one.
+# The page that `report` makes: what it says of each verdict and what it marks; then in a browser, where there is one.
 
 # opens CELLS TEXT: the page opens in Chromium without a word on its console, and has so many cells and this text
 opens() {
@@ -21,6 +21,49 @@ refuses 3 "nowhere" report nowhere
 head -c 1000 disk >short
 refuses 1 "DISK ERROR #016" report short
 
+# marked: the sectors that the page in 'out' marks as damaged
+marked() {
+    awk 'match($0, /id="c-[0-9]+-[0-9]+"/) { at = substr($0, RSTART + 6, RLENGTH - 7) } /class="damage"/ { print at }' out |
+        tr '\n' ' '
+}
+
+# tells NUMBER MEANING FINDING SECTOR..: of this diskette, too, there is a page; it says in words what the census says and where the
+# rule is broken, has a cell for each sector, and marks these and no other
+tells() {
+    local number=$1 meaning=$2 finding=$3
+    shift 3
+    ends 0 "" report disk
+    [ ! -s err ] || fail "the page of a damaged diskette: $(cat err)"
+    shows "<strong>Damaged</strong> The census refuses it: DISK ERROR #0$number, $meaning."
+    grep -qE "<li class=\"broken\"><b>✗</b> [^<]* <small>$number</small><ul><li>(<a href=\"#c-[0-9]*-[0-9]*\">)?$finding" out ||
+        fail "the page does not say at rule $number: $finding"
+    [ "$(grep -c '<g class="cell' out)" = 40 ] || fail "the page for $number has not one cell for each sector"
+    [ "$(marked)" = "$* " ] || fail "the page for $number marks $(marked)"
+}
+
+patch 1024 0 4
+tells 42 "directory not right" "directory: its sector 0,5 links to 0,4, which is not on track 0" 0-5
+shows "It can't be listed."
+fresh
+patch "$(slot 3)" 78 79 82 84 72
+tells 43 "live slot behind a never-used one, or two files of one name" "NORTH.TXT .* and slot 3 have one name" 0-5
+fresh
+patch 543 1 1
+tells 44 "free chain not right" "the free chain: sector 19 of 19 is at 1,2, but its stated end is 1,1" 1-2
+fresh
+patch "$(sector 2 4)" 2 6
+tells 45 "chain of a file not right" "NORTH.TXT .*: runs on: sector 5 of 5, at 2,4, links to 2,6" 2-4
+fresh
+patch "$(sector 2 2)" 2 7
+patch $(($(slot 2) + 15)) 2 7
+tells 46 "a sector is in no chain, or in two" "sector 2,7 is held by NORTH.TXT .* and by POWER.TXT" 2-4 2-7
+
+# ---- what has no shape has no page
+fresh
+printf x >>disk
+refuses 1 "DISK ERROR #016: not the image of a diskette" report disk
+
+fresh
 if command -v chromium >/dev/null; then
     opens 40 "<strong>Sound</strong>"
     patch "$(sector 2 2)" 2 7

@@ -1,5 +1,8 @@
 //! JSON, as much of it as the commands print.
 
+#[cfg(test)]
+pub mod reading;
+
 use flex::Address;
 use std::fmt::{Display, Write};
 

@@ -18,8 +18,9 @@ pub fn replace(image: &Image, bytes: &[u8]) -> Result<(), String> {
     // Opened first, so that one who may not sync it learns so before anything is changed.
     let opened =
         File::open(folder).map_err(|error| format!("{}: it could not be synced: {}", folder.display(), error))?;
-    let (new, file) = create_beside(folder)?;
-    if let Err(problem) = fill(&new, file, image, bytes).and_then(|()| put_in_place(&new, image)) {
+    let (new, file) =
+        create_beside(folder).map_err(|error| unchanged(image, "a new image can't be made in its folder", error))?;
+    if let Err(problem) = fill(file, image, bytes).and_then(|()| put_in_place(&new, image)) {
         // This file was made above, so nobody else's is deleted.
         let _ = fs::remove_file(&new);
         return Err(problem);
@@ -31,23 +32,27 @@ pub fn replace(image: &Image, bytes: &[u8]) -> Result<(), String> {
 }
 
 /// A file that was not there, with a name of its own. Only its owner may read it until it is in place.
-pub fn create_beside(folder: &Path) -> Result<(PathBuf, File), String> {
+pub fn create_beside(folder: &Path) -> io::Result<(PathBuf, File)> {
     let mut number = 0;
     loop {
         let path = folder.join(format!(".flexbox-{}-{}.new", process::id(), number));
         match OpenOptions::new().write(true).create_new(true).mode(0o600).open(&path) {
             Ok(file) => return Ok((path, file)),
             Err(error) if error.kind() == io::ErrorKind::AlreadyExists && number < TRIES => number += 1,
-            Err(error) => return Err(format!("{}: a new file can't be made: {}", path.display(), error)),
+            Err(error) => return Err(error),
         }
     }
 }
 
-fn fill(new: &Path, mut file: File, image: &Image, bytes: &[u8]) -> Result<(), String> {
-    let named = |error: io::Error| format!("{}: {}", new.display(), error);
+/// The new file is gone by the time that one reads this, so the image is named.
+fn unchanged(image: &Image, what: &str, error: io::Error) -> String {
+    format!("{}: not changed: {}: {}", image.named().display(), what, error)
+}
+
+fn fill(mut file: File, image: &Image, bytes: &[u8]) -> Result<(), String> {
     keep_owner_and_mode(&file, image)?;
-    file.write_all(bytes).map_err(named)?;
-    file.sync_all().map_err(named)
+    let written = file.write_all(bytes).and_then(|()| file.sync_all());
+    written.map_err(|error| unchanged(image, "the new image could not be written beside it", error))
 }
 
 /// The owner first: a change of it can take mode bits away.

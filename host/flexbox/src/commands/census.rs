@@ -71,7 +71,7 @@ fn map(held: &[Held], signs: &[char], per: usize) -> String {
 }
 
 /// The census's two lists as one, in its order; none where it refuses.
-fn as_json(words: &Words, shape: Shape, census: &Result<Vec<Held>, Refusal>) -> String {
+pub fn as_json(words: &Words, shape: Shape, census: &Result<Vec<Held>, Refusal>) -> String {
     let sectors = census.iter().flatten().map(|held| {
         let address = json::address(shape.address(held.sector as usize));
         json::Object::new().with("sector", address).with("owner", held.owner).end()

@@ -58,7 +58,7 @@ fn last_line(words: &Words, check: &Check) -> String {
     }
 }
 
-fn as_json(words: &Words, check: &Check) -> String {
+pub fn as_json(words: &Words, check: &Check) -> String {
     let findings = check.findings.iter().map(|finding| {
         json::Object::new()
             .with("number", finding.number)

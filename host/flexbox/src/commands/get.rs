@@ -146,7 +146,8 @@ fn write(path: &Path, bytes: &[u8], replace: bool) -> Result<(), Failure> {
 }
 
 fn put_over(path: &Path, old: &Metadata, bytes: &[u8]) -> Result<(), Failure> {
-    let (new, mut file) = create_beside(folder(path)).map_err(Failure::File)?;
+    let (new, mut file) = create_beside(folder(path))
+        .map_err(|error| unwritten(path, format!("a new file can't be made beside it: {}", error)))?;
     let filled = file.write_all(bytes).and_then(|()| file.set_permissions(old.permissions()));
     filled.and_then(|()| fs::rename(&new, path)).map_err(|error| {
         // Made above, and not in place.

@@ -89,7 +89,7 @@ fn as_text(words: &Words, record: &Record, check: &Check) -> String {
     )
 }
 
-fn as_json(words: &Words, record: &Record, check: &Check) -> String {
+pub fn as_json(words: &Words, record: &Record, check: &Check) -> String {
     json::Object::new()
         .with_text("image", &words.image().to_string_lossy())
         .with("last_track", check.shape.last)

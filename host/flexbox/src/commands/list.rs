@@ -57,7 +57,7 @@ fn line(number: usize, entry: &Entry) -> String {
     format!("{:4}  {:12}  {:7}  {}  {}", number, entry.name, entry.sectors, date, protection(entry))
 }
 
-fn as_json(words: &Words, slots: &[Slot]) -> String {
+pub fn as_json(words: &Words, slots: &[Slot]) -> String {
     let files = live(slots).map(|(slot, entry)| file_as_json(slot, entry));
     json::Object::new()
         .with_text("image", &words.image().to_string_lossy())

@@ -4,6 +4,8 @@ mod census;
 mod change;
 mod check;
 mod demo;
+#[cfg(test)]
+mod documented;
 mod dump;
 mod get;
 pub mod info;

@@ -1,6 +1,6 @@
 //! The files that `get` and `put` are asked for, each with where its bytes come from or go to.
 //!
-//! NAME.EXT=FILE names both sides. With `--files` a word alone is both: `put --files disk logs/NIGHT.TXT` makes NIGHT.TXT of that
+//! NAME.EXT=FILE names both sides. With `--files` each word is both: `put --files disk logs/NIGHT.TXT` makes NIGHT.TXT of that
 //! file, `get --files disk NIGHT.TXT` makes the file NIGHT.TXT in the current folder. One NAME.EXT alone is standard input
 //! or output.
 
@@ -35,14 +35,30 @@ pub fn pieces(words: &Words) -> Result<Vec<Piece>, Failure> {
 }
 
 fn piece(word: &OsString, files: bool) -> Result<Piece, Failure> {
+    if files {
+        return of_path(word);
+    }
     let bytes = word.as_bytes();
     let (shown, file) = match bytes.iter().position(|&byte| byte == b'=') {
+        Some(at) if at + 1 == bytes.len() => {
+            return Err(Failure::Usage(format!("'{}': no FILE follows its '='", word.to_string_lossy())));
+        }
         Some(at) => (os(&bytes[..at]), Some(PathBuf::from(os(&bytes[at + 1..])))),
-        None if files => (last_part(word), Some(PathBuf::from(word))),
         None => (word.clone(), None),
     };
     let shown = text(&shown)?.to_string();
     Ok(Piece { name: typed(&shown)?, shown, file })
+}
+
+/// The word is a path as it stands: a folder may well have a '=' in its name. A file on a diskette has none, so one who
+/// wrote NAME.EXT=FILE all the same is told.
+fn of_path(word: &OsString) -> Result<Piece, Failure> {
+    let shown = text(&last_part(word))?.to_string();
+    if shown.contains('=') {
+        let why = "with --files each word is a FILE, and no name on a diskette has a '='; NAME.EXT=FILE is for without --files";
+        return Err(Failure::Usage(format!("'{}': {}", word.to_string_lossy(), why)));
+    }
+    Ok(Piece { name: typed(&shown)?, shown, file: Some(PathBuf::from(word)) })
 }
 
 /// The name as the service takes it: with TXT where it has no extension.

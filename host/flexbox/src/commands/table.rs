@@ -57,7 +57,7 @@ pub const COMMANDS: &[Command] = &[
                   last one up. A damaged file is refused: one whose chain is not as its slot states (it runs on into another\n\
                   file, or ends early), or which shares a sector or its name with another.\n\
                   \x20 --trim     without the zeros at the end (those that were written, too)\n\
-                  \x20 --files    each NAME.EXT alone goes to a file of that name in the current folder\n\
+                  \x20 --files    each word is a NAME.EXT, which goes to a file of that name in the current folder\n\
                   \x20 --replace  a FILE that is there already is replaced\n\
                   \x20 --force    gives the bytes of a damaged file, too, with a warning and exit status 1\n",
         operands: (2, MANY),

@@ -1,0 +1,99 @@
+# What another program does between two calls of flexbox: witness.c, preloaded, comes between them each time. Those who win such a
+# race by chance are in 50-lock.sh.
+
+printf 'bytes\n' >lines
+
+# two: the demo diskette, and 'other' without NORTH.TXT
+two() {
+    fresh
+    cp disk other
+    does delete other NORTH.TXT
+    cp other other.before
+}
+
+# ended STATUS: the last command under the witness
+ended() { [ "$status" = "$1" ] || fail "status $status, not $1, under the witness: $(cat err)"; }
+
+if [ -n "$witness" ]; then
+    # ---- an image that is replaced after it was opened and before it is locked: the new one is changed, or looked at
+    two
+    witnessed WITNESS_AT_LOCK="other disk" -- put disk NEW.TXT <lines
+    ended 0
+    does list disk
+    shows NEW.TXT
+    hides NORTH.TXT
+    two
+    witnessed WITNESS_AT_LOCK="other disk" -- list disk
+    ended 0
+    hides NORTH.TXT
+    shows SOUTH.TXT
+
+    # ---- a link that leads elsewhere by then: the image behind it now is changed, the one before is not
+    two
+    ln -s disk link
+    ln -s other link.new
+    witnessed WITNESS_AT_LOCK="link.new link" -- put link NEW.TXT <lines
+    ended 0
+    cmp disk "$demo"
+    does list other
+    shows NEW.TXT
+
+    # ---- an image that was moved, with its link, and another put where it was: that other one is not overwritten
+    two
+    ln -sfn disk link
+    ln -s moved link.new
+    witnessed WITNESS_AT_LOCK="disk moved link.new link other disk" -- put link NEW.TXT <lines
+    ended 0
+    cmp disk other.before
+    does list moved
+    shows NEW.TXT
+    rm link moved
+
+    # ---- one that is gone by then, with nothing in its place
+    fresh
+    witnessed WITNESS_AT_LOCK="disk gone" -- put disk NEW.TXT <lines
+    ended 3
+    says "flexbox: disk: No such file"
+    cmp gone "$demo"
+
+    # ---- a FIFO that takes the image's place before it is opened is not waited for, and is no image
+    for command in list delete; do
+        fresh
+        rm -f pipe
+        mkfifo pipe
+        with=()
+        [ $command = list ] || with=(NORTH.TXT)
+        witnessed WITNESS_AT_OPEN="pipe disk" -- $command disk "${with[@]}"
+        ended 3
+        says "flexbox: disk: not a regular file"
+        grep -qx 'open disk' log || fail "refused before it was opened: not the race that is meant"
+        rm disk
+    done
+
+    # ---- a file with a second name, or a read-only one, that takes its place before it is locked
+    two
+    ln other second
+    witnessed WITNESS_AT_LOCK="other disk" -- put disk NEW.TXT <lines
+    ended 3
+    says "2 hard links"
+    cmp disk other.before
+    rm second
+    two
+    chmod 444 other
+    witnessed WITNESS_AT_LOCK="other disk" -- put disk NEW.TXT <lines
+    ended 3
+    says "write-protect tab"
+    cmp disk other.before
+
+    # ---- on a file system without locks one looks all the same, and changes nothing
+    fresh
+    witnessed WITNESS_NO_LOCKS=1 -- list disk
+    ended 0
+    shows NORTH.TXT
+    witnessed WITNESS_NO_LOCKS=1 -- delete disk NORTH.TXT
+    ended 3
+    says "flexbox: disk: it can't be locked"
+    cmp disk "$demo"
+else
+    echo "flexbox: no compiler here: what others do between two calls of flexbox was not tried"
+fi

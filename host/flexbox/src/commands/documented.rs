@@ -1,0 +1,84 @@
+//! The fields that `--json` prints are those of the table in docs/HOST.md: every one of them, and no other.
+
+use super::{census, check, find, info, list};
+use crate::json::reading::{read, Value};
+use crate::words::Words;
+use diskettes::{blank, offset};
+use flex::{Diskette, Shape};
+use std::collections::BTreeSet;
+
+const DOCUMENT: &str = include_str!("../../../../docs/HOST.md");
+/// Where the table begins. A line has the commands, their fields, and what these hold.
+const TABLE: &str = "| `--json` of | Fields | What they hold |";
+/// With what JSON must quote.
+const NAME: &str = "a \"quoted\"\\\n\u{7f} name";
+
+/// What is in backticks.
+fn quoted(cell: &str) -> Vec<&str> {
+    cell.split('`').skip(1).step_by(2).collect()
+}
+
+/// The fields that the table has for a command.
+fn documented(command: &str) -> BTreeSet<String> {
+    let table = DOCUMENT.split(TABLE).nth(1).expect("docs/HOST.md has the table of fields");
+    let mut fields = BTreeSet::new();
+    for row in table.lines().skip(2).take_while(|line| line.starts_with('|')) {
+        let cells: Vec<&str> = row.split('|').collect();
+        if quoted(cells[1]).contains(&command) {
+            for field in quoted(cells[2]) {
+                assert!(fields.insert(field.to_string()), "{} is there twice for {}", field, command);
+            }
+        }
+    }
+    fields
+}
+
+fn in_use() -> Vec<u8> {
+    let mut diskette = Diskette::new(blank(2, 6));
+    for name in ["A", "B"] {
+        diskette.put(&name.parse().unwrap(), &[7; 504], [1, 2, 3]).unwrap();
+    }
+    diskette.into_buffers().0
+}
+
+/// Sound; A's second sector is B's, with the slot of A; the directory leads nowhere.
+fn images() -> Vec<Vec<u8>> {
+    let (mut shared, mut loose) = (in_use(), in_use());
+    shared[offset(6, 1, 1)..][..2].copy_from_slice(&[1, 4]);
+    shared[1024 + 16 + 15..][..2].copy_from_slice(&[1, 4]);
+    loose[1024..1026].copy_from_slice(&[0, 9]);
+    vec![in_use(), shared, loose]
+}
+
+/// What a command prints of a diskette; None where `list` is refused.
+fn printed(command: &str, image: Vec<u8>) -> Option<String> {
+    let words = Words::parse(find(command).unwrap(), &["--json".into(), NAME.into()]).ok().flatten().unwrap();
+    let mut diskette = Diskette::new(image);
+    let record = info::Record::read(&mut diskette).unwrap();
+    let shape = Shape::stated(diskette.image()).unwrap();
+    match command {
+        "list" => Some(list::as_json(&words, &diskette.slots().ok()?)),
+        "info" => Some(info::as_json(&words, &record, &crate::check::check(&mut diskette).unwrap())),
+        "check" => Some(check::as_json(&words, &crate::check::check(&mut diskette).unwrap())),
+        _ => Some(census::as_json(&words, shape, &diskette.survey())),
+    }
+}
+
+#[test]
+fn every_field_is_documented_and_every_documented_one_is_there() {
+    for command in ["list", "info", "check", "census"] {
+        let mut fields = BTreeSet::new();
+        for json in images().into_iter().filter_map(|image| printed(command, image)) {
+            let value = read(&json);
+            fields.extend(value.fields());
+            match value {
+                Value::Object(members) => {
+                    assert!(members.contains(&("image".to_string(), Value::Text(NAME.to_string()))))
+                }
+                other => panic!("no object: {:?}", other),
+            }
+        }
+        assert!(fields.len() >= 5, "{}: {:?}", command, fields);
+        assert_eq!(fields, documented(command), "{}", command);
+    }
+}
