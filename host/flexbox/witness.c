@@ -1,8 +1,8 @@
 /*
  * Preloaded under flexbox by the scenes that need to see its system calls, or to come between two of them.
  *
- * Each call on a file is a line in the file that WITNESS_LOG names: open, lock or share, read, and those that put an image in
- * place: write, sync, rename. Of these last, the WITNESS_STOP-th ends the process before it is made, as a cut of power would;
+ * Each call on a file is a line in the file that WITNESS_LOG names: open, or make with the mode, lock or share, read, and those
+ * that put an image in place: write, sync, rename. Of these last, the WITNESS_STOP-th ends the process before it is made, as a cut of power would;
  * the WITNESS_FAIL-th is not made, but fails.
  *
  * WITNESS_AT_OPEN and WITNESS_AT_LOCK hold renames, "FROM TO FROM TO ..", which another program makes just before the first file is
@@ -90,8 +90,10 @@ static int is_locked(const char *path) {
 }
 
 static int opened(const char *name, const char *path, int flags, int mode) {
+    char make[32];
     meanwhile("WITNESS_AT_OPEN");
-    if (!(flags & O_CREAT)) logged("open", path);
+    snprintf(make, sizeof make, "make %o", mode);
+    logged(flags & O_CREAT ? make : "open", path);
     return ((open_call)dlsym(RTLD_NEXT, name))(path, flags, mode);
 }
 

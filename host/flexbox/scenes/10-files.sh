@@ -134,3 +134,12 @@ for zone in A-14 B+12 UTC0; do
     does list disk
     grep TODAY.TXT out | grep -qF -e "$before" -e "$after" || fail "TZ=$zone: not today: $(grep TODAY.TXT out)"
 done
+
+# ---- the main job, told step by step
+fresh
+does demo disk
+shows "02:15 CREW AT AMPLIFIER 14"
+[ "$(grep -c 'NIGHT.TXT' out)" = 5 ] || fail "NIGHT.TXT is not listed, drawn and gone again: $(cat out)"
+does list disk
+hides NIGHT.TXT
+does check disk

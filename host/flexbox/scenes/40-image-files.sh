@@ -39,9 +39,9 @@ rm link
 if [ "$(id -u)" = 0 ]; then
     fresh
     chown 4321:8765 disk
-    chmod 2664 disk
+    chmod 6775 disk # a change of the owner takes the first of these bits away
     does put disk NEW.TXT <lines
-    [ "$(stat -c %u:%g:%a disk)" = 4321:8765:2664 ] || fail "owner and mode are now $(stat -c %u:%g:%a disk)"
+    [ "$(stat -c %u:%g:%a disk)" = 4321:8765:6775 ] || fail "owner and mode are now $(stat -c %u:%g:%a disk)"
 
     # ---- who can't keep the owner does not change the image
     other=(setpriv --reuid 4321 --regid 4321 --clear-groups)

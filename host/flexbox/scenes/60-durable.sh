@@ -7,15 +7,16 @@ if [ -n "$witness" ]; then
     does delete disk NORTH.TXT
     cp disk new
 
-    # ---- locked, read, written, synced, renamed while it is locked, the folder synced, and nothing else
+    # ---- locked, read, a new file made that nobody else may read, written, synced, renamed while the old one is locked, the
+    # folder synced, and nothing else
     fresh
     witnessed -- delete disk NORTH.TXT
     [ "$status" = 0 ] || fail "failed under the witness: $(cat err)"
     cmp disk new
     sed 's/\.flexbox-[0-9]*-[0-9]*\.new/NEW/' log | uniq | tr '\n' ' ' >calls
     folder=$(basename "$PWD")
-    [ "$(cat calls)" = "open disk lock disk read disk open $folder write NEW sync NEW rename disk sync $folder " ] ||
-        fail "calls: $(cat calls)"
+    echo "open disk lock disk read disk open $folder make 600 NEW write NEW sync NEW rename disk sync $folder " >expected
+    [ "$(cat calls)" = "$(cat expected)" ] || fail "calls: $(cat calls)"
 
     # ---- cut before each of them
     for stop in 1 2 3 4; do
