@@ -61,6 +61,7 @@ refuses 1 "DISK ERROR #016" info --json disk
 refuses 1 "DISK ERROR #016" list --json disk
 refuses 1 "DISK ERROR #041" put disk A.TXT <"$demo"
 refuses 1 "DISK ERROR #041" put --force disk A.TXT <"$demo"
+[ "$(wc -l <err)" = 1 ] || fail "--force goes on with what is no diskette: $(cat err)"
 : >disk
 refuses 1 "DISK ERROR #016" list disk
 refuses 1 "DISK ERROR #041" census disk
@@ -101,3 +102,19 @@ refuses 2 "number of seconds" list --wait soon disk
 refuses 2 "at most 8 characters" get disk NINECHARS.TXT
 refuses 2 "at most 3" delete disk A.TEXT
 refuses 2 "standard input is empty" put disk A.TXT </dev/null
+
+# ---- what can't be printed is a failure; a reader who has seen enough is none
+if [ -c /dev/full ]; then
+    for command in list info check census report; do
+        status=0
+        limited "${flexbox[@]}" "$command" disk >/dev/full 2>err || status=$?
+        [ "$status" = 3 ] || fail "status $status where standard output is full: $command"
+        says "flexbox: standard output: No space left"
+        checks=$((checks + 1))
+    done
+fi
+# The reader is gone before the first byte: the FIFO is opened for both, and then for writing alone.
+mkfifo gone
+limited "${flexbox[@]}" list disk 2>err 3<>gone >gone 3<&- || fail "status $? where nobody reads on: $(cat err)"
+[ ! -s err ] || fail "said where nobody reads on: $(cat err)"
+checks=$((checks + 1))
