@@ -3,7 +3,7 @@
 # put_late NUMBER NAME IMAGE: waits for the lock as long as it must; messages and status go to files
 put_late() {
     local status=0
-    echo "log $1" | "${flexbox[@]}" put --wait 60 "$3" "$2" >"out$1" 2>"err$1" || status=$?
+    echo "log $1" | limited "${flexbox[@]}" put --wait 60 "$3" "$2" >"out$1" 2>"err$1" || status=$?
     echo $status >"status$1"
 }
 
@@ -29,6 +29,8 @@ if command -v flock >/dev/null; then
     says "waiting up to 1 s"
     refuses 4 "another program still has it locked after 0 s" delete --wait 0 disk NORTH.TXT
     refuses 4 "another program" list --wait 0 disk
+    refuses 4 "another program still has it locked after 5 s" put disk NEW.TXT <"$demo"
+    says "waiting up to 5 s"
 
     # ---- who waited for an image that was replaced meanwhile changes the new one
     cp disk other
