@@ -86,7 +86,16 @@ impl Chain {
             Owner::File(slot) => (45, vec![slot]),
         };
         let text = format!("{}: {}", holder(self.owner, slots), self.words(fault));
-        Finding { number, slots: owners, sectors: fault.places(), text }
+        let at = fault.place().unwrap_or_else(|| self.stated_in(slots));
+        Finding { number, slots: owners, sectors: vec![at], text }
+    }
+
+    /// The sector that states this chain: the information record's, or the one with the file's slot.
+    fn stated_in(&self, slots: &[Slot]) -> Address {
+        match self.owner {
+            Owner::Free => Address::new(0, 3),
+            Owner::File(slot) => slots[slot - 1].place.sector,
+        }
     }
 
     fn words(&self, fault: Fault) -> String {
@@ -123,12 +132,12 @@ fn broken(shape: Shape, seen: &[bool], taken: usize, at: Option<Address>, next: 
 }
 
 impl Fault {
-    /// The sectors where it is.
-    fn places(self) -> Vec<Address> {
+    /// The sector where it is. None: what is stated is wrong in itself, whatever the sectors hold.
+    fn place(self) -> Option<Address> {
         match self {
-            Fault::NotEmpty | Fault::Start => vec![],
-            Fault::Short(_, at) | Fault::Link(_, at, _) | Fault::Circle(_, at, _) => vec![at],
-            Fault::End(at) | Fault::RunsOn(at, _) => vec![at],
+            Fault::NotEmpty | Fault::Start => None,
+            Fault::Short(_, at) | Fault::Link(_, at, _) | Fault::Circle(_, at, _) => Some(at),
+            Fault::End(at) | Fault::RunsOn(at, _) => Some(at),
         }
     }
 }

@@ -19,7 +19,7 @@ pub struct Finding {
     pub number: u8,
     /// The slots of the files that it concerns.
     pub slots: Vec<usize>,
-    /// The sectors where it is.
+    /// The sectors where it is; at least one.
     pub sectors: Vec<Address>,
     pub text: String,
 }

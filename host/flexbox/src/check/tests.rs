@@ -1,5 +1,5 @@
 //! The findings beside the proved verdict: on thousands of damaged diskettes the first finding breaks the very rule that
-//! the census names, and a diskette that the census accepts has none.
+//! the census names, each has a place, and a diskette that the census accepts has none.
 
 use super::*;
 use diskettes::{blank, offset};
@@ -61,6 +61,7 @@ fn the_first_finding_is_the_verdict() {
         let verdict = check.verdict.map_or_else(Refusal::number, |()| 0);
         assert_eq!(check.findings.first().map_or(0, |first| first.number), verdict, "{:?}", check.findings);
         assert!(check.findings.windows(2).all(|pair| pair[0].number <= pair[1].number));
+        assert!(check.findings.iter().all(|finding| !finding.sectors.is_empty()), "{:?}", check.findings);
         seen[verdict as usize] += 1;
     }
     for verdict in [0, 42, 43, 44, 45, 46] {

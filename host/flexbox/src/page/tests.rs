@@ -150,9 +150,13 @@ fn verdict_45_the_chain_of_a_file() {
     assert_eq!(said(&page), [chain, lost]);
     assert_eq!(marked(&page), ["1-1", "1-2"]);
     assert_eq!(states(&page), ["damaged", "sound"]);
-    // A start that is no sector is nowhere to be marked, and is said without a link.
+    // A start that is no sector is marked where it stands: in the slot's sector, or the information record.
     let start = damaged("45, chain of a file not right", &[(SLOT_A + 13, &[0, 1])]);
-    assert_eq!(said(&start)[0], "A.TXT (slot 1, at 0,5 byte 16): its start 0,1 is no data sector; it states 2 sectors");
+    let text = "A.TXT (slot 1, at 0,5 byte 16): its start 0,1 is no data sector; it states 2 sectors";
+    assert_eq!(said(&start)[0], format!("<a href=\"#c-0-5\">{}</a>", text));
+    assert_eq!(marked(&start), ["0-5", "1-1", "1-2"]);
+    let free = damaged("44, free chain not right", &[(545, &[0, 0])]);
+    assert_eq!(marked(&free)[..2], ["0-3", "1-6"]);
 }
 
 #[test]
