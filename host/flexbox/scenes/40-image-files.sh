@@ -57,6 +57,8 @@ if [ "$(id -u)" = 0 ]; then
         chmod 644 disk
         refuses 3 "disk: Permission denied" put disk NEW.TXT <lines
         does list disk
+        chmod 444 disk
+        refuses 3 "write-protect tab" put disk NEW.TXT <lines
 
         closed_folder "${other[@]}"
         flexbox=("${flexbox[@]:${#other[@]}}")

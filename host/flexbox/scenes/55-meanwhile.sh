@@ -61,13 +61,19 @@ if [ -n "$witness" ]; then
         fresh
         rm -f pipe
         mkfifo pipe
-        with=()
-        [ $command = list ] || with=(NORTH.TXT)
-        witnessed WITNESS_AT_OPEN="pipe disk" -- $command disk "${with[@]}"
+        witnessed WITNESS_AT_OPEN="pipe disk" -- $command disk $([ $command = list ] || echo NORTH.TXT)
         ended 3
         says "flexbox: disk: not a regular file"
         grep -qx 'open disk' log || fail "refused before it was opened: not the race that is meant"
         rm disk
+    done
+
+    # ---- what is no regular file from the start is not even opened: that alone can wind a tape
+    for command in list put; do
+        witnessed -- $command /dev/zero $([ $command = list ] || echo A.TXT) <lines
+        ended 3
+        says "flexbox: /dev/zero: not a regular file"
+        [ ! -e log ] || fail "calls on what is no image: $(cat log)"
     done
 
     # ---- a file with a second name, or a read-only one, that takes its place before it is locked
