@@ -125,9 +125,10 @@ does census disk
 patch $(($(slot 2) + 11)) 64
 refuses 1 "DISK ERROR #012" put --replace disk NORTH.TXT <lines
 
-# ---- the date of a new file is today's, by the local time
+# ---- the date of a new file is today's, by the local time; east and west are 26 hours apart, so never on one day
 fresh
-for zone in A-14 B+12 UTC0; do
+[ "$(TZ=EAST-14 date +%d)" != "$(TZ=WEST+12 date +%d)" ] || fail "the zones of this test are none"
+for zone in EAST-14 WEST+12 UTC0; do
     before=$(TZ=$zone date +%m-%d-%y)
     TZ=$zone does put --replace disk TODAY.TXT <lines
     after=$(TZ=$zone date +%m-%d-%y)
