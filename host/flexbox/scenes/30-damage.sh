@@ -133,7 +133,9 @@ shows NEW.TXT
 warns "damaged, and changed all the same by --force" delete --force disk NORTH.TXT
 warns "damaged, and changed all the same by --force" rename --force disk NEW.TXT OLD.TXT
 warns "damaged, and changed all the same by --force" put --replace --force disk OLD.TXT <lines
-does info disk
+does list disk
+shows OLD.TXT
+hides NORTH.TXT
 fresh
 does put --force disk NEW.TXT <lines
 
