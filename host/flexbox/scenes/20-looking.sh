@@ -115,6 +115,10 @@ if [ -c /dev/full ]; then
 fi
 # The reader is gone before the first byte: the FIFO is opened for both, and then for writing alone.
 mkfifo gone
-limited "${flexbox[@]}" list disk 2>err 3<>gone >gone 3<&- || fail "status $? where nobody reads on: $(cat err)"
+(
+    exec 3<>gone
+    exec >gone 3<&-
+    limited "${flexbox[@]}" list disk 2>err
+) || fail "status $? where nobody reads on: $(cat err)"
 [ ! -s err ] || fail "said where nobody reads on: $(cat err)"
 checks=$((checks + 1))
