@@ -78,6 +78,15 @@ def r43():
     return image
 
 
+def holes():
+    """A.TXT in slot 2, B.TXT in slot 5; the slots before and between them were never used."""
+    image = empty()
+    slot(image, 2, "A", [4, 1])
+    slot(image, 5, "B", [3])
+    free(image, [5, 2])
+    return image
+
+
 def r44():
     """The free chain ends at 1,5 and says that it ends at 1,4."""
     image = empty()
@@ -116,7 +125,7 @@ def long():
 
 
 IMAGES = {
-    "empty": empty, "p4": p4, "41": r41, "42": r42, "43": r43, "44": r44, "45": r45, "46": r46,
+    "empty": empty, "p4": p4, "41": r41, "42": r42, "43": r43, "holes": holes, "44": r44, "45": r45, "46": r46,
     "shared": shared, "long": long,
 }
 

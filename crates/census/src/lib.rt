@@ -17,7 +17,6 @@ use outputs::are_new;
 use outputs::fill;
 use outputs::run;
 use slotwalk::has_twins;
-use slotwalk::is_holed;
 use slotwalk::list_files;
 use slotwalk::own_files;
 
@@ -78,10 +77,6 @@ fn tried(image: &[u8], last: u8, per: u8, sectors: &mut [u16], owners: &mut [u16
     let right = directory_right(image, per);
     if !right {
         return 42;
-    }
-    let holed = is_holed(image, per);
-    if holed {
-        return 43;
     }
     let twins = has_twins(image, per);
     if twins {

@@ -13,7 +13,7 @@ use Rattle.rules.specs.Directory.{live, startAt, endAt, sizeAt}
 use Rattle.rules.specs.Census.{runsOut, chainRight, numbersFrom, fileRight, filesRight, fileNumbers, filesNumbers}
 use Rattle.laws.specs.Tests.{clash, never, both}
 use Rattle.laws.specs.Bytes.{over-none, over-append, length-over}
-use Rattle.laws.specs.Surveys.{length-numbers}
+use Rattle.laws.specs.Surveys.{chain-right, length-numbers}
 use Rattle.census_laws.specs.Turns.{one-left, none-left}
 use Rattle.census_laws.specs.Stored.{over-cons}
 use Rattle.census_laws.specs.declared.Listing.{Listing}
@@ -190,8 +190,8 @@ module _ (img : List ℕ) (M S : ℕ) where
 
   pub chain-lists : (start end count : ℕ) (out : List ℕ) (at : ℕ)
       → Lists (chainRight img M S start end count) (numbersFrom img S count start) out at (chain img M S start end count out at)
-  unfolding chain chainRight
-  chain-lists start end count out at = go (leb count (M * S)) (walk-lists end count 0 start out at)
+  unfolding chain
+  chain-lists start end count out at = rw (chain-right img M S start end count) (go (leb count (M * S)) (walk-lists end count 0 start out at))
     where
       go : (b : Bool) → Lists (runsOut img M S end count 0 start) (numbersFrom img S count start) out at (walk img M S end count 0 start out at)
           → Lists (pick b (runsOut img M S end count 0 start) false) (numbersFrom img S count start) out at
@@ -224,8 +224,8 @@ module _ (img : List ℕ) (M S : ℕ) where
   file-kept o out out′ at e = lists-kept (file-lists o out at) e
 
   file-most : (o : ℕ) → fileRight img M S o ≡ true → length (fileNumbers img S o) ≤ M * S
-  unfolding fileRight fileNumbers chainRight
-  file-most o = go (live img o)
+  unfolding fileRight fileNumbers
+  file-most o h = go (live img o) (rw (chain-right img M S (startAt img o) (endAt img o) (sizeAt img o)) at h)
     where
       go : (b : Bool) → pick b (pick (leb (sizeAt img o) (M * S)) (runsOut img M S (endAt img o) (sizeAt img o) 0 (startAt img o)) false) true ≡ true
           → length (pick b (numbersFrom img S (sizeAt img o) (startAt img o)) []) ≤ M * S

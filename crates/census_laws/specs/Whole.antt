@@ -11,7 +11,7 @@ use borrow.Author.Tests.{eq-eqb, ne-eqb}
 use Rattle.rules.specs.Bytes.{pick, over, zeros}
 use Rattle.rules.specs.Image.{firstFree, lastFree, freeCount}
 use Rattle.rules.specs.Directory.{directoryRight, slots}
-use Rattle.rules.specs.Census.{holed, twins, freeRight, filesRight, numbersFrom, filesNumbers, listed, owners, eachOnce, Survey, survey, fault, concluded}
+use Rattle.rules.specs.Census.{unless, twins, freeRight, filesRight, numbersFrom, filesNumbers, listed, owners, eachOnce, Survey, survey, fault, concluded}
 use Rattle.laws.specs.Bytes.{over-append, length-zeros}
 use Rattle.laws.specs.Surveys.{length-numbers, length-owners, numbers-listed}
 use Rattle.census_laws.specs.Marks.{Marked, marked, marking, Marks, marking-once, once-short}
@@ -27,12 +27,10 @@ mended e xs ys = pick (eqb e 0) (survey e xs ys) (survey e (replicate (length xs
 -- the faults of chains, in order
 unfoldable pub chainsFault : List ℕ → ℕ → ℕ → ℕ
 chainsFault img M S =
-    pick (freeRight img M S)
-    (pick (filesRight img M S (slots img S))
-    (pick (eachOnce (M * S) (listed img S)) 0
-    46)
-    45)
-    44
+    unless (freeRight img M S) 44
+    (unless (filesRight img M S (slots img S)) 45
+    (unless (eachOnce (M * S) (listed img S)) 46
+    0))
 
 -- the end: n numbers were listed in xs; each once, by marks in ys, and then the owners there
 pub data Ended : Type 0 where
@@ -163,28 +161,21 @@ module _ (img : List ℕ) (M S : ℕ) (xs ys : List ℕ) (lx : length xs ≡ M *
   unfolding fault
   tried-directory h = rw (← a, h) (refused img M S xs ys lx ly 42 xs ys (λ v. omega arith) refl refl)
 
-  module _ {hole : Bool} (h : right ≡ true) (b : hole ≡ holed img (slots img S)) where
-    pub tried-holed : hole ≡ true → mended 43 xs ys ≡ concluded img S (M * S) (fault img M S)
+  module _ {twin : Bool} (h : right ≡ true) (c : twin ≡ twins img (slots img S)) where
+    pub tried-twins : twin ≡ true → mended 43 xs ys ≡ concluded img S (M * S) (fault img M S)
     unfolding fault
-    tried-holed k = rw (← a, h, ← b, k) (refused img M S xs ys lx ly 43 xs ys (λ v. omega arith) refl refl)
+    tried-twins l = rw (← a, h, ← c, l) (refused img M S xs ys lx ly 43 xs ys (λ v. omega arith) refl refl)
 
-    module _ {twin : Bool} (k : hole ≡ false) (c : twin ≡ twins img (slots img S)) where
-      pub tried-twins : twin ≡ true → mended 43 xs ys ≡ concluded img S (M * S) (fault img M S)
-      unfolding fault
-      tried-twins l = rw (← a, h, ← b, k, ← c, l) (refused img M S xs ys lx ly 43 xs ys (λ v. omega arith) refl refl)
-
-      pub tried-chains : {w : Survey} → twin ≡ false → w ≡ concluded img S (M * S) (chainsFault img M S) → w ≡ concluded img S (M * S) (fault img M S)
-      unfolding fault chainsFault
-      tried-chains l d = rw (← a, h, ← b, k, ← c, l) d
+    pub tried-chains : {w : Survey} → twin ≡ false → w ≡ concluded img S (M * S) (chainsFault img M S) → w ≡ concluded img S (M * S) (fault img M S)
+    unfolding fault chainsFault
+    tried-chains l d = rw (← a, h, ← c, l) d
 
 -- ---- lengths before all that, and a refusal's filling after it
 unfoldable pub sized : List ℕ → ℕ → ℕ → List ℕ → List ℕ → Survey
 sized img M S xs ys =
-    pick (eqb (length xs) (M * S))
-    (pick (eqb (length ys) (M * S))
-    (concluded img S (M * S) (fault img M S))
-    (survey 40 xs ys))
-    (survey 40 xs ys)
+    unless (eqb (length xs) (M * S)) (survey 40 xs ys)
+    (unless (eqb (length ys) (M * S)) (survey 40 xs ys)
+    (concluded img S (M * S) (fault img M S)))
 
 module _ (img : List ℕ) (M S : ℕ) (xs ys : List ℕ) {n : ℕ} (c : n ≡ M * S) where
   pub sized-first : (length xs ≡ n → ⊥) → survey 40 xs ys ≡ sized img M S xs ys

@@ -15,6 +15,7 @@ use Rattle.laws.specs.Small.{Small, small-word}
 use Rattle.chains.specs.Tally.{tally, tally-head, bit, eq1, eq1-same, eq1-ne}
 use Rattle.chains.specs.Once.{Once}
 use Rattle.laws.specs.Tests.{both}
+use Rattle.laws.specs.Surveys.{chain-right}
 use Rattle.laws.specs.Addresses.{Shape}
 use Rattle.chains.specs.Addresses.{adr, adr-zero, index-adr, data-adr, data-index}
 use Rattle.chains.specs.Chain.{first, lastOf, Seg, Chain}
@@ -105,22 +106,20 @@ module _ (M S : ℕ) (z : Shape M S) (m : List ℕ) where
   -- a chain that the census finds right is a chain
   pub chain-sound : Small m → (p : ℕ) → chainRight m M S (wordAt m p) (wordAt m (p + 2)) (wordAt m (p + 4)) ≡ true
       → Chain S m p (chainAt S m p) × AllData M S (chainAt S m p)
-  unfolding chainRight
   chain-sound small p h =
-      let q = both (leb (wordAt m (p + 4)) (M * S)) _ h in
+      let q = both (leb (wordAt m (p + 4)) (M * S)) _ (sym (chain-right m M S (wordAt m p) (wordAt m (p + 2)) (wordAt m (p + 4))) ∙ h) in
       let r = ran small (wordAt m (p + 2)) (wordAt m (p + 4)) 0 (wordAt m p) 0 (small-word m p small) (sym (adr-zero S)) (q .1) in
       (record { start = r .start; end = r .end; size = sym (length-walk S m (wordAt m (p + 4)) (wordAt m p)); seg = r .seg }, r .all)
 
   -- and the other way round
   pub chain-complete : (p : ℕ) (l : List ℕ) → AllData M S l → length l ≤ M * S → Chain S m p l
       → (chainAt S m p ≡ l) × (chainRight m M S (wordAt m p) (wordAt m (p + 2)) (wordAt m (p + 4)) ≡ true)
-  unfolding chainRight
   chain-complete p l g b c =
       let w = runs l 0 g (c .seg) in
       let e : chainAt S m p ≡ l = ap₂ (walk S m) (c .size) (c .start) ∙ w .0 in
       let r : runsOut m M S (adr S (lastOf l 0)) (length l) 0 (adr S (first l 0)) ≡ true =
       subst (λ (x : ℕ). runsOut m M S (adr S (lastOf l 0)) (length l) x (adr S (first l 0)) ≡ true) (adr-zero S) (w .1) in
-      (e, rw (c .size, c .start, c .end, le-leb (length l) (M * S) b) r)
+      (e, rw (chain-right, c .size, c .start, c .end, le-leb (length l) (M * S) b) r)
 
 -- ---- each once
 

@@ -1,14 +1,15 @@
 -- The fakes: services that break the user's words, and so must not meet the demands. Each is ours with one thing changed, but for `refusing`
--- and `idling`, which do nothing at all; in quotes, words of 01 that it breaks. That they fail is proved in crate `refuted`.
-use mathlib.Core.Bool.{Bool, true, false}
+-- and `idling`, which do nothing at all; in quotes, words of 01 or 02 that it breaks. That they fail is proved in crate `refuted`.
+use mathlib.Core.Bool.{Bool, true, false, not}
 use mathlib.Core.List.{List, [], _∷_}
 use Prim.Native.Nat.{ℕ, zero, suc, _+_, _*_}
 use lib.ListN.{length}
 use lib.Dec.{eqb, ltb}
 use Rattle.rules.specs.Bytes.{pick, byteAt, wordAt, part, over, one, zeros}
-use Rattle.rules.specs.Image.{shapeRight, freeCount}
+use Rattle.rules.specs.Image.{shapeRight, perTrack, freeCount}
+use Rattle.rules.specs.Directory.{slots, neverUsed, named}
 use Rattle.rules.specs.Outcome.{Out, out}
-use Rattle.rules.specs.Block.{functionIn, activityIn}
+use Rattle.rules.specs.Block.{functionIn, activityIn, nameIn}
 use Rattle.rules.specs.Census.{Survey, survey}
 use Rattle.rules.specs.Text.{told as replied}
 use Rattle.demands.specs.Service.{Service, flex, leftOf}
@@ -155,9 +156,9 @@ abbrev pub stingy : Service
 stingy = withCall (λ img tab n b.
     pick (pick (transfers 2 tab n) (eqb (freeCount img) 0) false) (refusal 7 img tab n) (flex .call img tab n b))
 
--- a byte sent swaps the dates of the slots at 1064 and 1112. "gets name and date"
+-- a byte sent swaps the dates of the slots at 1064 and 1088. "gets name and date"
 abbrev pub swapped : List ℕ → List ℕ
-swapped img = over (over img 1085 (part img 1133 3)) 1133 (part img 1085 3)
+swapped img = over (over img 1085 (part img 1109 3)) 1109 (part img 1085 3)
 
 abbrev pub swapping : Service
 swapping = withImage (transfers 2) swapped
@@ -182,6 +183,18 @@ stalling = withCall (λ img tab n b.
 abbrev pub purging : Service
 purging = withCall (λ img tab n b.
     spoilt (pick (eqb (byteAt img 541) 0) (asksFor 13 tab n) false) (λ m. over m 1040 (zeros 24)) (λ m. m) (flex .call img tab n b))
+
+-- open for read looks only before the first slot that was never used. "The name search is to go to the end"
+abbrev pub seenBefore : List ℕ → List ℕ → List ℕ → Bool
+seenBefore img name [] = false
+seenBefore img name (o ∷ os) = pick (neverUsed img o) false (pick (named img name o) true (seenBefore img name os))
+
+abbrev pub missed : Bool → Out → Out → Out
+missed t instead (out a b img tab) = pick (pick (eqb a 0) t false) instead (out a b img tab)
+
+abbrev pub stopping : Service
+stopping = withCall (λ img tab n b.
+    missed (pick (asksFor 1 tab n) (not (seenBefore img (nameIn tab (320 * n)) (slots img (perTrack img)))) false) (refusal 4 img tab n) (flex .call img tab n b))
 
 -- 4 is answered for 5. "5 directory not right"
 abbrev pub softened : ℕ → Out → Out

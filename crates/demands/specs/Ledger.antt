@@ -10,12 +10,11 @@ use Rattle.rules.specs.Stores.{Store, store, stored, Put, put, puts}
 use Rattle.rules.specs.Outcome.{Effect, answer, onBlock}
 use Rattle.rules.specs.Image.{index, isSector, infoSector}
 use Rattle.rules.specs.Names.{legal}
-use Rattle.rules.specs.Directory.{named, vacant, onSeen, placeOf}
+use Rattle.rules.specs.Directory.{named, vacant, placeOf}
 use Rattle.rules.specs.Block.{functionField, activityField, driveField, nameField, dateField, positionField, recordField, indexField, placeField, newNameField, bufferField, presetIn, extensionIn}
 use Rattle.rules.specs.Transfer.{takePuts, sent, shut}
 use Rattle.rules.specs.Files.{opened, writeProtected, deleteProtected}
 use Rattle.rules.specs.Call.{served, fits, misfit}
-use Rattle.rules.specs.declared.Seen.{Seen}
 use Rattle.chains.specs.Addresses.{adr}
 use Rattle.chains.specs.Tally.{flat}
 use Rattle.chains.specs.Chain.{first, lastOf, setLast}
@@ -161,10 +160,10 @@ abbrev pub onSought : {A : Type 0} → Sought → A → (ℕ → A) → A
 onSought nowhere e f = e
 onSought (slot s) e f = f s
 
--- the first slot whose name is a hit, before one where the search stops
-unfoldable pub seek : (List ℕ → Seen) → List File → Sought
-seek look [] = nowhere
-seek look (f ∷ fs) = onSeen (look (f .name)) (slot 0) nowhere (later (seek look fs))
+-- the first slot whose name is one looked for
+unfoldable pub seek : (List ℕ → Bool) → List File → Sought
+seek wanted [] = nowhere
+seek wanted (f ∷ fs) = pick (wanted (f .name)) (slot 0) (later (seek wanted fs))
 
 -- the file of a name
 abbrev pub fileNamed : List ℕ → List File → Sought

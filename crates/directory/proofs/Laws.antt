@@ -1,6 +1,6 @@
 -- Each way through the functions of this crate, and each turn and way out of their loops. In a loop's laws w is the answer.
 use mathlib.Core.Path.{_≡_, refl, ap, _∙_}
-use mathlib.Core.Bool.{Bool, true, false}
+use mathlib.Core.Bool.{Bool, true, false, not}
 use mathlib.Core.List.{List, []}
 use Prim.Native.Nat.{ℕ, _+_, _-_, _*_, _/_, _%_, _≤_, _<_}
 use native.Mathlib.Omega.{arith}
@@ -9,13 +9,9 @@ use lib.Dec.{leb}
 use borrow.Author.Tests.{le-leb, lt-leb, lt-ltb, le-ltb, eq-eqb, ne-eqb}
 use Rattle.rules.specs.Bytes.{within, part, same}
 use Rattle.rules.specs.Image.{trackOf, sectorOf, index, linkOf}
-use Rattle.rules.specs.Directory.{isDirectory, stepTo, nextOf, onNext, mostOfDirectory, ends, directoryRight, sectorsFrom, directory, slotsAt, firstSlotOf, slotsOf, slots, neverUsed, deleted, live, scan, searchStops, named, vacant, lookupOf, find, vacancy, member, isDisplacement, placed, slotBehind}
+use Rattle.rules.specs.Directory.{isDirectory, stepTo, nextOf, onNext, mostOfDirectory, ends, directoryRight, sectorsFrom, directory, slotsAt, firstSlotOf, slotsOf, slots, neverUsed, deleted, live, scan, named, vacant, find, vacancy, member, isDisplacement, placed, slotBehind}
 use Rattle.rules.specs.declared.Next.{Next}
 use Rattle.rules.specs.declared.Next.the-variants.{End, To, Astray}
-use Rattle.rules.specs.declared.Seen.{Seen}
-use Rattle.rules.specs.declared.Seen.the-variants.{Hit, Stop, Pass}
-use Rattle.rules.specs.declared.Found.{Found}
-use Rattle.rules.specs.declared.Found.the-variants.{Slot, Stopped, Further}
 use Rattle.rules.specs.declared.Lookup.{Lookup}
 use Rattle.rules.specs.declared.Lookup.the-variants.{At, Missing, Broken}
 use Rattle.laws.specs.Bytes.{same-no, same-on}
@@ -97,87 +93,63 @@ module _ (xs ys : List ℕ) (p q i n : ℕ) {w : Bool} {a b : ℕ} (e : a ≡ ge
 pub run-start : (xs ys : List ℕ) (p q n : ℕ) → same (part xs p n) (part ys q n) ≡ same (part xs (p + 0) n) (part ys (q + 0) n)
 run-start xs ys p q n = let x : p + 0 ≡ p = omega arith in let y : q + 0 ≡ q = omega arith in rw (x, y) refl
 
--- for a vacancy
-module _ (img name : List ℕ) (slot : ℕ) {free l : Bool} (g : free ≡ true) (e : l ≡ live img slot) where
-  pub look-live : l ≡ true → Pass ≡ looked free img name slot
+module _ (img name : List ℕ) (slot : ℕ) {free : Bool} where
+  pub looked-free : {l : Bool} → l ≡ live img slot → free ≡ true → not l ≡ looked free img name slot
   unfolding looked vacant
-  look-live k = rw (g, ← e, k) refl
+  looked-free e g = rw (g, ← e) refl
 
-  pub look-vacant : l ≡ false → Hit ≡ looked free img name slot
-  unfolding looked vacant
-  look-vacant k = rw (g, ← e, k) refl
-
--- for a name
-module _ (img name : List ℕ) (slot : ℕ) {free : Bool} {b : ℕ} (g : free ≡ false) (e : b ≡ getD img slot 0) where
-  pub look-stop : b ≡ 0 → Stop ≡ looked free img name slot
-  unfolding looked named searchStops neverUsed
-  look-stop k = rw (g, ← e, k) refl
-
-  module _ (h : b ≡ 0 → ⊥) {l : Bool} (d : l ≡ live img slot) where
-    pub look-deleted : l ≡ false → Pass ≡ looked free img name slot
-    unfolding looked named searchStops neverUsed
-    look-deleted k = rw (g, ← e, ne-eqb b 0 h, ← d, k) refl
-
-    pub look-same : {r : Bool} → l ≡ true → r ≡ same (part img slot 11) name → r ≡ true → Hit ≡ looked free img name slot
-    unfolding looked named searchStops neverUsed
-    look-same k q j = rw (g, ← e, ne-eqb b 0 h, ← d, k, ← q, j) refl
-
-    pub look-other : {r : Bool} → l ≡ true → r ≡ same (part img slot 11) name → r ≡ false → Pass ≡ looked free img name slot
-    unfolding looked named searchStops neverUsed
-    look-other k q j = rw (g, ← e, ne-eqb b 0 h, ← d, k, ← q, j) refl
+  pub looked-name : {r : Bool} → r ≡ named img name slot → free ≡ false → r ≡ looked free img name slot
+  unfolding looked
+  looked-name q g = rw g q
 
 -- ---- the scan of a sector
 
-module _ (look : ℕ → Seen) (o n : ℕ) {w : Found} {a : Seen} (v : w ≡ scan look (slotsAt o n)) (h : 0 < n) (e : a ≡ look o) where
-  pub scan-hit : a ≡ Hit → Slot o ≡ w
+module _ (wanted : ℕ → Bool) (o n : ℕ) {w : Lookup} {a : Bool} (v : w ≡ scan wanted (slotsAt o n)) (h : 0 < n) (e : a ≡ wanted o) where
+  pub scan-hit : a ≡ true → At o ≡ w
   unfolding scan
   scan-hit k = rw (v, slots-more o n h, ← e, k) refl
 
-  pub scan-stop : a ≡ Stop → Stopped ≡ w
+  pub scan-on : a ≡ false → w ≡ scan wanted (slotsAt (o + 24) (n - 1))
   unfolding scan
-  scan-stop k = rw (v, slots-more o n h, ← e, k) refl
+  scan-on k = rw (v, slots-more o n h, ← e, k) refl
 
-  pub scan-pass : a ≡ Pass → w ≡ scan look (slotsAt (o + 24) (n - 1))
-  unfolding scan
-  scan-pass k = rw (v, slots-more o n h, ← e, k) refl
-
-pub scan-out : (look : ℕ → Seen) (o n : ℕ) {w : Found} → w ≡ scan look (slotsAt o n) → n ≤ 0 → Further ≡ w
+pub scan-out : (wanted : ℕ → Bool) (o n : ℕ) {w : Lookup} → w ≡ scan wanted (slotsAt o n) → n ≤ 0 → Missing ≡ w
 unfolding scan
-scan-out look o n v h = rw (v, slots-none o n h) refl
+scan-out wanted o n v h = rw (v, slots-none o n h) refl
 
 -- ---- the scan of all sectors
 
-module _ (look : ℕ → Seen) (img : List ℕ) (S n k : ℕ) {w a : Found} (v : w ≡ scan look (slotsOf (sectorsFrom img S n k))) (h : 0 < n)
-    (e : a ≡ scan look (slotsAt (firstSlotOf k) 10)) where
-  all-more : w ≡ further a (scan look (slotsOf (onNext (nextOf img S k) [] [] (λ j. sectorsFrom img S (n - 1) j))))
+module _ (wanted : ℕ → Bool) (img : List ℕ) (S n k : ℕ) {w a : Lookup} (v : w ≡ scan wanted (slotsOf (sectorsFrom img S n k))) (h : 0 < n)
+    (e : a ≡ scan wanted (slotsAt (firstSlotOf k) 10)) where
+  all-more : w ≡ further a (scan wanted (slotsOf (onNext (nextOf img S k) [] [] (λ j. sectorsFrom img S (n - 1) j))))
   unfolding slotsOf
   all-more = rw (v, sectors-more img S n k h, scan-append, ← e) refl
 
-  pub all-slot : {o : ℕ} → a ≡ Slot o → Slot o ≡ w
-  all-slot d = rw (all-more, d) refl
+  pub all-at : {o : ℕ} → a ≡ At o → At o ≡ w
+  all-at d = rw (all-more, d) refl
 
-  pub all-stop : a ≡ Stopped → Stopped ≡ w
-  all-stop d = rw (all-more, d) refl
+  pub all-broken : a ≡ Broken → Broken ≡ w
+  all-broken d = rw (all-more, d) refl
 
-  module _ (f : a ≡ Further) {b : Next} (g : b ≡ nextOf img S k) where
-    pub all-end : b ≡ End → Further ≡ w
+  module _ (f : a ≡ Missing) {b : Next} (g : b ≡ nextOf img S k) where
+    pub all-end : b ≡ End → Missing ≡ w
     unfolding slotsOf scan
     all-end j = rw (all-more, f, ← g, j) refl
 
-    pub all-astray : b ≡ Astray → Further ≡ w
+    pub all-astray : b ≡ Astray → Missing ≡ w
     unfolding slotsOf scan
     all-astray j = rw (all-more, f, ← g, j) refl
 
-    pub all-to : {x : ℕ} → b ≡ To x → w ≡ scan look (slotsOf (sectorsFrom img S (n - 1) x))
+    pub all-to : {x : ℕ} → b ≡ To x → w ≡ scan wanted (slotsOf (sectorsFrom img S (n - 1) x))
     all-to j = rw (all-more, f, ← g, j) refl
 
-pub all-out : (look : ℕ → Seen) (img : List ℕ) (S n k : ℕ) {w : Found} → w ≡ scan look (slotsOf (sectorsFrom img S n k)) → n ≤ 0 → Further ≡ w
+pub all-out : (wanted : ℕ → Bool) (img : List ℕ) (S n k : ℕ) {w : Lookup} → w ≡ scan wanted (slotsOf (sectorsFrom img S n k)) → n ≤ 0 → Missing ≡ w
 unfolding slotsOf scan
-all-out look img S n k v h = rw (v, sectors-none img S n k h) refl
+all-out wanted img S n k v h = rw (v, sectors-none img S n k h) refl
 
-pub all-from : (look : ℕ → Seen) (img : List ℕ) (S : ℕ) {n : ℕ} → n ≡ mostOfDirectory S → scan look (slots img S) ≡ scan look (slotsOf (sectorsFrom img S n 4))
+pub all-from : (wanted : ℕ → Bool) (img : List ℕ) (S : ℕ) {n : ℕ} → n ≡ mostOfDirectory S → scan wanted (slots img S) ≡ scan wanted (slotsOf (sectorsFrom img S n 4))
 unfolding directory
-all-from look img S e = rw e refl
+all-from wanted img S e = rw e refl
 
 -- ---- search and vacancy
 
@@ -186,9 +158,9 @@ module _ (free : Bool) (img name : List ℕ) (S : ℕ) {r : Bool} (e : r ≡ dir
   unfolding sought
   sought-wrong k = rw (← e, k) refl
 
-  pub sought-right : {a : Found} {o : Lookup} → r ≡ true → a ≡ scan (looked free img name) (slots img S) → o ≡ lookupOf a → o ≡ sought free img S name
+  pub sought-right : {o : Lookup} → r ≡ true → o ≡ scan (looked free img name) (slots img S) → o ≡ sought free img S name
   unfolding sought
-  sought-right k d j = rw (← e, k, ← d) j
+  sought-right k d = rw (← e, k) d
 
 pub sought-find : (img : List ℕ) (S : ℕ) (name : List ℕ) {o : Lookup} → o ≡ sought false img S name → o ≡ find img S name
 unfolding sought looked find

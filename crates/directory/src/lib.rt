@@ -3,7 +3,7 @@
 ghost use mathlib.Core.Path.{_≡_};
 ghost use Prim.Native.Nat.{_+_, _*_, _<_};
 ghost use Rattle.rules.specs.Bytes.{part, over, same};
-ghost use Rattle.rules.specs.Directory.{isDirectory, stepTo, nextOf, mostOfDirectory, directoryRight, directory, slotsAt, firstSlotOf, slots, live, scan, lookupOf, find, vacancy, member, isDisplacement, placed, placeOf, slotBehind};
+ghost use Rattle.rules.specs.Directory.{isDirectory, stepTo, nextOf, mostOfDirectory, directoryRight, directory, slotsAt, firstSlotOf, slots, live, named, scan, find, vacancy, member, isDisplacement, placed, placeOf, slotBehind};
 ghost use Rattle.directory.specs.Sought.{looked, sought};
 use cells::get;
 use cells::get_in;
@@ -11,10 +11,8 @@ use cells::get2;
 use cells::store;
 use disk::index_of;
 use disk::link_of;
-use rules::Found;
 use rules::Lookup;
 use rules::Next;
-use rules::Seen;
 
 // May a directory sector have this address?
 fn is_directory(per: u8, a: u16) -> bool
@@ -110,51 +108,47 @@ pub fn same_name(image: &[u8], slot: u32, table: &[u8], at: usize) -> bool
     true
 }
 
-// What a scan makes of a slot: one for a vacancy, or one for the name at a place of the table.
-fn look(free: bool, image: &[u8], table: &[u8], at: usize, slot: u32) -> Seen
-    ensures { λ r. ⌜ r ≡ looked free (now (image .entry)) (part (now (table .entry)) at 11) slot ⌝ }
+// Is a slot live with the name at a place of the table?
+fn is_named(image: &[u8], slot: u32, table: &[u8], at: usize) -> bool
+    ensures { λ r. ⌜ r ≡ named (now (image .entry)) (part (now (table .entry)) at 11) slot ⌝ }
 {
     let alive = is_live(image, slot);
-    if free {
-        if alive {
-            return Seen::Pass;
-        }
-        return Seen::Hit;
-    }
-    let b = get(image, slot as usize);
-    if b == 0 {
-        return Seen::Stop;
-    }
     if !alive {
-        return Seen::Pass;
+        return false;
     }
-    let same = same_name(image, slot, table, at);
-    if same {
-        return Seen::Hit;
+    same_name(image, slot, table, at)
+}
+
+// Is a slot looked for: by a scan for a vacancy, or by one for the name at a place of the table?
+fn is_sought(free: bool, image: &[u8], table: &[u8], at: usize, slot: u32) -> bool
+    ensures { λ r. ⌜ r ≡ looked free (now (image .entry)) (part (now (table .entry)) at 11) slot ⌝ }
+{
+    if free {
+        let alive = is_live(image, slot);
+        return !alive;
     }
-    Seen::Pass
+    is_named(image, slot, table, at)
 }
 
 // The scan of a sector's ten slots.
-fn scan_sector(free: bool, image: &[u8], table: &[u8], at: usize, k: u16) -> Found
+fn scan_sector(free: bool, image: &[u8], table: &[u8], at: usize, k: u16) -> Lookup
     ensures { λ r. ⌜ r ≡ scan (looked free (now (image .entry)) (part (now (table .entry)) at 11)) (slotsAt (firstSlotOf k) 10) ⌝ }
 {
     let mut slot = 256 * k as u32 + 16;
     let mut left = 10u8;
     while left > 0 {
-        let seen = look(free, image, table, at, slot);
-        match seen {
-            Seen::Hit => return Found::Slot(slot),
-            Seen::Stop => return Found::Stopped,
-            Seen::Pass => slot += 24,
+        let found = is_sought(free, image, table, at, slot);
+        if found {
+            return Lookup::At(slot);
         }
+        slot += 24;
         left -= 1;
     }
-    Found::Further
+    Lookup::Missing
 }
 
 // The scan of all slots.
-fn scan_all(free: bool, image: &[u8], per: u8, table: &[u8], at: usize) -> Found
+fn scan_all(free: bool, image: &[u8], per: u8, table: &[u8], at: usize) -> Lookup
     ensures { λ r. ⌜ r ≡ scan (looked free (now (image .entry)) (part (now (table .entry)) at 11)) (slots (now (image .entry)) per) ⌝ }
 {
     let mut left = most_of(per);
@@ -162,32 +156,22 @@ fn scan_all(free: bool, image: &[u8], per: u8, table: &[u8], at: usize) -> Found
     while left > 0 {
         let found = scan_sector(free, image, table, at, k);
         match found {
-            Found::Slot(slot) => return Found::Slot(slot),
-            Found::Stopped => return Found::Stopped,
-            Found::Further => {}
+            Lookup::At(slot) => return Lookup::At(slot),
+            Lookup::Missing => {}
+            Lookup::Broken => return Lookup::Broken, // a sector's scan never answers so
         }
         let next = next_of(image, per, k);
         match next {
-            Next::End => return Found::Further,
-            Next::Astray => return Found::Further,
+            Next::End => return Lookup::Missing,
+            Next::Astray => return Lookup::Missing,
             Next::To(j) => k = j,
         }
         left -= 1;
     }
-    Found::Further
+    Lookup::Missing
 }
 
-fn lookup_of(found: Found) -> Lookup
-    ensures { λ r. ⌜ r ≡ lookupOf found ⌝ }
-{
-    match found {
-        Found::Slot(slot) => Lookup::At(slot),
-        Found::Stopped => Lookup::Missing,
-        Found::Further => Lookup::Missing,
-    }
-}
-
-// The first hit of a directory that is right.
+// The first slot looked for of a directory that is right.
 fn seek(free: bool, image: &[u8], per: u8, table: &[u8], at: usize) -> Lookup
     ensures { λ r. ⌜ r ≡ sought free (now (image .entry)) per (part (now (table .entry)) at 11) ⌝ }
 {
@@ -195,7 +179,7 @@ fn seek(free: bool, image: &[u8], per: u8, table: &[u8], at: usize) -> Lookup
     if !right {
         return Lookup::Broken;
     }
-    lookup_of(scan_all(free, image, per, table, at))
+    scan_all(free, image, per, table, at)
 }
 
 // The slot with the name at a place of the table.

@@ -1,6 +1,6 @@
 -- The directory: where its sectors and slots lie, what a scan finds, places and slots.
 use mathlib.Core.Path.{_≡_, refl, sym, ap, _∙_}
-use mathlib.Core.Bool.{true}
+use mathlib.Core.Bool.{Bool, true, false}
 use mathlib.Core.List.{List, [], _∷_, _++_}
 use Prim.Native.Nat.{ℕ, zero, suc, _+_, _-_, _*_, _/_, _%_, _≤_, _<_}
 use native.Mathlib.Omega.{arith}
@@ -8,15 +8,11 @@ use native.Mathlib.Decide.{decLt}
 use lib.ListN.{getD}
 use lib.Dec.{eqb}
 use borrow.Author.Tests.{eqb-true, eq-eqb}
-use Rattle.rules.specs.Bytes.{within}
+use Rattle.rules.specs.Bytes.{pick, within, part, same}
 use Rattle.rules.specs.Image.{index, linkOf}
-use Rattle.rules.specs.Directory.{isDirectory, stepTo, nextOf, onNext, mostOfDirectory, firstOfDirectory, directoryRight, sectorsFrom, directory, slotsAt, firstSlotOf, slotsOf, slots, onSeen, scan, named, vacant, lookupOf, inDirectory, find, vacancy, member, isDisplacement, placed, placeOf}
+use Rattle.rules.specs.Directory.{isDirectory, stepTo, nextOf, onNext, mostOfDirectory, firstOfDirectory, directoryRight, sectorsFrom, directory, slotsAt, firstSlotOf, slotsOf, slots, live, scan, named, vacant, inDirectory, find, vacancy, member, isDisplacement, placed, placeOf}
 use Rattle.rules.specs.declared.Next.{Next}
 use Rattle.rules.specs.declared.Next.the-variants.{End, To, Astray}
-use Rattle.rules.specs.declared.Seen.{Seen}
-use Rattle.rules.specs.declared.Seen.the-variants.{Hit, Stop, Pass}
-use Rattle.rules.specs.declared.Found.{Found}
-use Rattle.rules.specs.declared.Found.the-variants.{Slot, Stopped, Further}
 use Rattle.rules.specs.declared.Lookup.{Lookup}
 use Rattle.rules.specs.declared.Lookup.the-variants.{At, Missing, Broken}
 use Rattle.laws.specs.Tests.{clash, never, both, either, within-is, within-true, pick-cases}
@@ -124,46 +120,43 @@ slots-apart S o p s t h = go (slot-number S o s) (slot-number S p t) (decLt (o /
 
 -- ---- scans
 
--- a scan that went on to the end goes on in the rest
-abbrev pub further : Found → Found → Found
-further (Slot o) g = Slot o
-further Stopped g = Stopped
-further Further g = g
+-- where the first slots have none, the scan goes on in the others
+abbrev pub further : Lookup → Lookup → Lookup
+further (At o) g = At o
+further Missing g = g
+further Broken g = Broken
 
-pub scan-append : (look : ℕ → Seen) (os ps : List ℕ) → scan look (os ++ ps) ≡ further (scan look os) (scan look ps)
+pub scan-append : (wanted : ℕ → Bool) (os ps : List ℕ) → scan wanted (os ++ ps) ≡ further (scan wanted os) (scan wanted ps)
 unfolding scan
-scan-append look [] ps = refl
-scan-append look (o ∷ os) ps = go (look o) (scan-append look os ps)
+scan-append wanted [] ps = refl
+scan-append wanted (o ∷ os) ps = go (wanted o) (scan-append wanted os ps)
   where
-    go : (s : Seen) → scan look (os ++ ps) ≡ further (scan look os) (scan look ps)
-        → onSeen s (Slot o) Stopped (scan look (os ++ ps)) ≡ further (onSeen s (Slot o) Stopped (scan look os)) (scan look ps)
-    go Hit e = refl
-    go Stop e = refl
-    go Pass e = e
+    go : (w : Bool) → scan wanted (os ++ ps) ≡ further (scan wanted os) (scan wanted ps)
+        → pick w (At o) (scan wanted (os ++ ps)) ≡ further (pick w (At o) (scan wanted os)) (scan wanted ps)
+    go true e = refl
+    go false e = e
 
--- what is found is one of the slots, and a hit
-pub scan-found : (look : ℕ → Seen) (os : List ℕ) (o : ℕ) → scan look os ≡ Slot o → (member o os ≡ true) × (look o ≡ Hit)
+-- what is found is one of the slots, and wanted
+pub scan-found : (wanted : ℕ → Bool) (os : List ℕ) (o : ℕ) → scan wanted os ≡ At o → (member o os ≡ true) × (wanted o ≡ true)
 unfolding scan
-scan-found look [] o h = clash (cc)
-scan-found look (p ∷ os) o h = go (look p) refl h (λ k. scan-found look os o k)
+scan-found wanted [] o h = clash (cc)
+scan-found wanted (p ∷ os) o h = go (wanted p) refl h (λ k. scan-found wanted os o k)
   where
-    go : (s : Seen) → look p ≡ s → onSeen s (Slot p) Stopped (scan look os) ≡ Slot o → (scan look os ≡ Slot o → (member o os ≡ true) × (look o ≡ Hit))
-        → (member o (p ∷ os) ≡ true) × (look o ≡ Hit)
-    go Hit e k rest = let q : p ≡ o = cc in (rw (← q) (member-here p os), ap look (sym q) ∙ e)
-    go Stop e k rest = clash (cc)
-    go Pass e k rest = let r = rest k in (member-there o p os (r .0), r .1)
+    go : (w : Bool) → wanted p ≡ w → pick w (At p) (scan wanted os) ≡ At o → (scan wanted os ≡ At o → (member o os ≡ true) × (wanted o ≡ true))
+        → (member o (p ∷ os) ≡ true) × (wanted o ≡ true)
+    go true e k rest = let q : p ≡ o = cc in (rw (← q) (member-here p os), ap wanted (sym q) ∙ e)
+    go false e k rest = let r = rest k in (member-there o p os (r .0), r .1)
 
--- where a scan went on to the end, it passed each
-pub scan-further : (look : ℕ → Seen) (os : List ℕ) → scan look os ≡ Further → Each (λ (o : ℕ). look o ≡ Pass) os
-unfolding scan
-scan-further look [] h = tt
-scan-further look (p ∷ os) h = go (look p) refl h (λ k. scan-further look os k)
-  where
-    go : (s : Seen) → look p ≡ s → onSeen s (Slot p) Stopped (scan look os) ≡ Further → (scan look os ≡ Further → Each (λ (o : ℕ). look o ≡ Pass) os)
-        → Each (λ (o : ℕ). look o ≡ Pass) (p ∷ os)
-    go Hit e k rest = clash (cc)
-    go Stop e k rest = clash (cc)
-    go Pass e k rest = (e, rest k)
+-- ---- a slot with a name
+
+module _ (img name : List ℕ) (slot : ℕ) {l : Bool} (e : l ≡ live img slot) where
+  pub named-dead : l ≡ false → false ≡ named img name slot
+  unfolding named
+  named-dead k = rw (← e, k) refl
+
+  pub named-live : {r : Bool} → l ≡ true → r ≡ same (part img slot 11) name → r ≡ named img name slot
+  unfolding named
+  named-live k q = rw (← e, k) q
 
 -- ---- lookups
 
@@ -173,23 +166,17 @@ pub record OneOf (img : List ℕ) (S o : ℕ) : Type 0 where
   pub one-of : member o (slots img S) ≡ true
   pub slot : IsSlot S o
 
-lookup-at : (g : Found) (o : ℕ) → lookupOf g ≡ At o → g ≡ Slot o
-lookup-at (Slot p) o h = let q : p ≡ o = cc in ap Slot q
-lookup-at Stopped o h = clash (cc)
-lookup-at Further o h = clash (cc)
-
-in-directory-is : (img : List ℕ) (S : ℕ) (look : ℕ → Seen) (o : ℕ) → inDirectory img S look ≡ At o → OneOf img S o × (look o ≡ Hit)
-in-directory-is img S look o =
-    pick-cases (λ (l : Lookup). l ≡ At o → OneOf img S o × (look o ≡ Hit)) (directoryRight img S) (lookupOf (scan look (slots img S))) Broken
-    (λ e h. let f = scan-found look (slots img S) o (lookup-at (scan look (slots img S)) o h) in
-    (record { right = e; one-of = f .0; slot = slot-is img S o (f .0) }, f .1))
+in-directory-is : (img : List ℕ) (S : ℕ) (wanted : ℕ → Bool) (o : ℕ) → inDirectory img S wanted ≡ At o → OneOf img S o × (wanted o ≡ true)
+in-directory-is img S wanted o =
+    pick-cases (λ (l : Lookup). l ≡ At o → OneOf img S o × (wanted o ≡ true)) (directoryRight img S) (scan wanted (slots img S)) Broken
+    (λ e h. let f = scan-found wanted (slots img S) o h in (record { right = e; one-of = f .0; slot = slot-is img S o (f .0) }, f .1))
     (λ e h. clash (cc))
 
-pub find-is : (img : List ℕ) (S : ℕ) (name : List ℕ) (o : ℕ) → find img S name ≡ At o → OneOf img S o × (named img name o ≡ Hit)
+pub find-is : (img : List ℕ) (S : ℕ) (name : List ℕ) (o : ℕ) → find img S name ≡ At o → OneOf img S o × (named img name o ≡ true)
 unfolding find
 find-is img S name o h = in-directory-is img S (named img name) o h
 
-pub vacancy-is : (img : List ℕ) (S o : ℕ) → vacancy img S ≡ At o → OneOf img S o × (vacant img o ≡ Hit)
+pub vacancy-is : (img : List ℕ) (S o : ℕ) → vacancy img S ≡ At o → OneOf img S o × (vacant img o ≡ true)
 unfolding vacancy
 vacancy-is img S o h = in-directory-is img S (vacant img) o h
 

@@ -7,13 +7,13 @@ use Prim.Native.Nat.{ℕ, zero, suc, _+_, _*_, _≤_, _<_}
 use native.Mathlib.Omega.{arith}
 use lib.ListN.{length, replicate, length-append, length-replicate}
 use lib.Dec.{eqb, leb}
-use borrow.Author.Tests.{eqb-true, eqb-false, eq-eqb}
+use borrow.Author.Tests.{eqb-true, eqb-false, eq-eqb, ne-eqb, le-leb}
 use Rattle.rules.specs.Bytes.{pick, two}
 use Rattle.rules.specs.Image.{shapeRight, lastTrack, perTrack, index, isData, linkOf, firstFree, lastFree, freeCount}
 use Rattle.rules.specs.Directory.{directoryRight, slots, live, member, startAt, endAt, sizeAt}
-use Rattle.rules.specs.Census.{holed, twins, runsOut, chainRight, numbersFrom, freeRight, fileRight, filesRight, fileNumbers, fileOwners, filesNumbers, filesOwners, listed, owners, eachOnce, Survey, survey, fault, concluded, census}
+use Rattle.rules.specs.Census.{twins, runsOut, chainRight, numbersFrom, freeRight, fileRight, filesRight, fileNumbers, fileOwners, filesNumbers, filesOwners, listed, owners, eachOnce, Survey, survey, fault, concluded, census}
 use Rattle.rules.specs.Host.{asBytes, hostConcluded, hostCensus}
-use Rattle.laws.specs.Tests.{both, either, neither, pick-cases}
+use Rattle.laws.specs.Tests.{both, either, pick-cases}
 use Rattle.laws.specs.Each.{Each, each-append, each-member, among, among-each}
 use Rattle.laws.specs.Addresses.{Shaped, shape-is, shape-true, data-is, number-high}
 use Rattle.laws.specs.Counting.{once-length}
@@ -75,9 +75,20 @@ numbers-run img M S end (suc n) before a h =
     let q = both (isData M S a) _ h in
     (number-high M S a (data-is M S a (q .0)), numbers-run img M S end n a (linkOf img (index S a)) (q .1))
 
+-- a chain of count 0 is the run of none
+pub chain-right : (img : List ℕ) (M S start end count : ℕ)
+    → chainRight img M S start end count ≡ pick (leb count (M * S)) (runsOut img M S end count 0 start) false
+unfolding chainRight runsOut
+chain-right img M S start end zero = rw (le-leb 0 (M * S) (omega arith)) (ap (λ (b : Bool). pick (eqb start 0) b false) (turned end))
+  where
+    turned : (x : ℕ) → eqb x 0 ≡ eqb 0 x
+    turned zero = refl
+    turned (suc x) = ne-eqb (suc x) 0 (λ h. omega arith) ∙ sym (ne-eqb 0 (suc x) (λ h. omega arith))
+chain-right img M S start end (suc n) = refl
+
 numbers-chain : (img : List ℕ) (M S start end count : ℕ) → chainRight img M S start end count ≡ true → Numbers M S (numbersFrom img S count start)
-unfolding chainRight
-numbers-chain img M S start end count h = numbers-run img M S end count 0 start (both (leb count (M * S)) _ h .1)
+numbers-chain img M S start end count h =
+    numbers-run img M S end count 0 start (both (leb count (M * S)) _ (sym (chain-right img M S start end count) ∙ h) .1)
 
 numbers-file : (img : List ℕ) (M S o : ℕ) → fileRight img M S o ≡ true → Numbers M S (fileNumbers img S o)
 unfolding fileRight fileNumbers
@@ -107,7 +118,6 @@ numbers-listed img M S f h =
 
 pub record Sane (img : List ℕ) (M S : ℕ) : Type 0 where
   pub right : directoryRight img S ≡ true
-  pub no-hole : holed img (slots img S) ≡ false
   pub no-twins : twins img (slots img S) ≡ false
   pub free : freeRight img M S ≡ true
   pub files : filesRight img M S (slots img S) ≡ true
@@ -128,16 +138,12 @@ pub fault-is : (img : List ℕ) (M S : ℕ) → (member (fault img M S) (0 ∷ f
 unfolding fault member
 fault-is img M S =
     pick-cases P (directoryRight img S) _ 42
-    (λ a. pick-cases P (pick (holed img (slots img S)) true (twins img (slots img S))) 43 _
+    (λ a. pick-cases P (twins img (slots img S)) 43 _
     (λ b. (refl, λ h. absurd (omega arith)))
     (λ b. pick-cases P (freeRight img M S) _ 44
     (λ c. pick-cases P (filesRight img M S (slots img S)) _ 45
     (λ d. pick-cases P (eachOnce (M * S) (listed img S)) 0 46
-    (λ e. (
-      refl,
-      λ h. let q = neither (holed img (slots img S)) (twins img (slots img S)) b in
-          record { right = a; no-hole = q .0; no-twins = q .1; free = c; files = d; once = e },
-    ))
+    (λ e. (refl, λ h. record { right = a; no-twins = b; free = c; files = d; once = e }))
     (λ e. (refl, λ h. absurd (omega arith))))
     (λ d. (refl, λ h. absurd (omega arith))))
     (λ c. (refl, λ h. absurd (omega arith)))))
@@ -148,7 +154,7 @@ fault-is img M S =
 
 pub sane-fault : (img : List ℕ) (M S : ℕ) → Sane img M S → fault img M S ≡ 0
 unfolding fault
-sane-fault img M S s = rw (s .right, s .no-hole, s .no-twins, s .free, s .files, s .once) refl
+sane-fault img M S s = rw (s .right, s .no-twins, s .free, s .files, s .once) refl
 
 -- ---- the census
 

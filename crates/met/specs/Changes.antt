@@ -1,9 +1,9 @@
 -- What an accepted call changes in the ledger; and what it leaves: other blocks, their files, files that no delete and no rename names.
 use mathlib.Core.Path.{_≡_, refl, sym, ap, _∙_, subst}
 use mathlib.Core.Logic.{_≢_}
-use mathlib.Core.Bool.{Bool, true, false}
+use mathlib.Core.Bool.{true, false}
 use mathlib.Core.List.{List, [], _∷_, _++_}
-use Prim.Native.Nat.{ℕ, suc, _≤_, _<_}
+use Prim.Native.Nat.{ℕ, suc, _<_}
 use native.Mathlib.Omega.{arith}
 use native.Mathlib.Decide.{ℕ-discrete}
 use lib.ListN.{length, getD, set, drop, length-set}
@@ -13,7 +13,7 @@ use borrow.Author.Tests.{eqb-true, eqb-false}
 use Rattle.rules.specs.Bytes.{pick}
 use Rattle.rules.specs.Image.{isSector}
 use Rattle.rules.specs.Names.{legal}
-use Rattle.rules.specs.Directory.{live, named, vacant, neverUsed, slotsOf}
+use Rattle.rules.specs.Directory.{live, named, vacant, slotsOf}
 use Rattle.rules.specs.Stores.{put}
 use Rattle.rules.specs.Files.{opened, writeProtected, deleteProtected}
 use Rattle.rules.specs.Call.{served, fits}
@@ -22,9 +22,8 @@ use Rattle.chains.specs.Addresses.{absurd-bool}
 use Rattle.demands.specs.Ledger.{File, noFile, Block, closed, listing, reading, writing, Ledger, Request, Fate, denied, granted, Sought, nowhere, slot, onSought, fileNamed, vacantSlot, busy, activity, block, file, attributes, setBlock, setFile, setFree, withMark, withName, newFile, taken, transferred, openedToRead, openedToWrite, shutBlock, rewound, shownNext, deleted, fetched, renamed, performed, called, joined, entryOf}
 use Rattle.met.specs.Tames.{last-code}
 use Rattle.met.specs.Relation.{opens, writes, Keeps, Agrees}
-use Rattle.met.specs.Searches.{slot-same, seek-found, named-hit, vacant-hit, marked-dead}
-use Rattle.met.specs.Opens.{legal-live}
-use Rattle.met.specs.Tidy.{nameOf, Tidy, live-used, tidy-set, found-none, room-before}
+use Rattle.met.specs.Searches.{slot-same, seek-found, vacant-hit, marked-dead}
+use Rattle.met.specs.Tidy.{nameOf, Tidy, tidy-set, found-none}
 
 -- ---- the kinds of change
 
@@ -292,33 +291,19 @@ live-not-room fs s l e =
 
 -- ---- 43 stays away
 
-marked-used : (x : List ℕ) → 1 ≤ length x → neverUsed (set x 0 255) 0 ≡ false
-unfolding neverUsed
-marked-used [] h = absurd (omega arith)
-marked-used (v ∷ x) h = refl
-
 module _ (a : Ledger) (t : Tidy (a .slots)) where
   -- of the same name
   same-name : (s : ℕ) (f : File) → s < length (a .slots) → live (f .name) 0 ≡ true → f .name ≡ nameOf (a .slots) s → Tidy (set (a .slots) s f)
   same-name s f hs l e =
       let e1 : nameOf (a .slots) s ≡ f .name = sym e in
-      tidy-set (a .slots) t s f hs (ap length e ∙ t .long s hs) (live-used (f .name) l)
-      (λ v i b. not-unused i s b hs (ap (λ (x : List ℕ). live x 0) (sym e) ∙ v))
+      tidy-set (a .slots) t s f hs (ap length e ∙ t .long s hs)
       (λ v j ne b w p. t .apart j s ne b hs w (ap (λ (x : List ℕ). live x 0) (sym e) ∙ v) (p ∙ e))
-    where
-      not-unused : (i j : ℕ) → i < j → j < length (a .slots) → live (nameOf (a .slots) j) 0 ≡ true → neverUsed (nameOf (a .slots) i) 0 ≡ false
-      not-unused i j b c v = go (neverUsed (nameOf (a .slots) i) 0) refl
-        where
-          go : (u : Bool) → neverUsed (nameOf (a .slots) i) 0 ≡ u → u ≡ false
-          go false e = refl
-          go true e = absurd-bool v (t .solid i j b c e)
 
   marked : (s : ℕ) → s < length (a .slots) → Tidy (set (a .slots) s (withMark (file a s)))
   marked s hs =
       let l = t .long s hs in
       let dead = marked-dead (nameOf (a .slots) s) (omega (arith, l)) in
-      tidy-set (a .slots) t s (withMark (file a s)) hs (length-set (nameOf (a .slots) s) 0 255 ∙ l) (marked-used (nameOf (a .slots) s) (omega (arith, l)))
-      (λ v. absurd-bool v dead) (λ v. absurd-bool v dead)
+      tidy-set (a .slots) t s (withMark (file a s)) hs (length-set (nameOf (a .slots) s) 0 255 ∙ l) (λ v. absurd-bool v dead)
 
   pub tidy-change : (a′ : Ledger) (n : ℕ) (q : Request) → length (q .name) ≡ 11 → length (q .rename) ≡ 11
       → ((s : ℕ) (ub : List ℕ) → block a n ≡ writing s ub → (s < length (a .slots)) × (live (nameOf (a .slots) s) 0 ≡ true))
@@ -328,23 +313,12 @@ module _ (a : Ledger) (t : Tidy (a .slots)) where
   tidy-change a′ n q ln lr ow (worked ne s ub fr vs f b x y st fd) = let o = ow s ub x in same-name s f (o .0) (ap (λ (x : List ℕ). live x 0) y ∙ o .1) y
   tidy-change a′ n q ln lr ow (dropped ne s ub x) = marked s (ow s ub x .0)
   tidy-change a′ n q ln lr ow (made ne s x y w) =
-      let l = legal-live (q .name) x in
-      tidy-set (a .slots) t s (newFile ((file a s) .at) (q .name) (q .date)) (seek-found (λ x. vacant x 0) (a .slots) s w .low) ln (live-used (q .name) l)
-      (λ v i b. live-used (nameOf (a .slots) i) (room-before (a .slots) s w i b))
+      tidy-set (a .slots) t s (newFile ((file a s) .at) (q .name) (q .date)) (seek-found (λ x. vacant x 0) (a .slots) s w .low) ln
       (λ v j ne b u. found-none (q .name) (a .slots) t y j b u)
   tidy-change a′ n q ln lr ow (gone s x y by) = marked s (seek-found (λ x. named x (q .name) 0) (a .slots) s y .low)
   tidy-change a′ n q ln lr ow (retitled s x y by w v) =
-      let l = legal-live (q .rename) w in
-      let p = seek-found (λ x. named x (q .name) 0) (a .slots) s y in
-      let hit = named-hit (nameOf (a .slots) s) (q .name) (p .hit) in
-      tidy-set (a .slots) t s (withName (file a s) (q .rename)) (p .low) lr (live-used (q .rename) l)
-      (λ u i b. go i (p .low) b (hit .alive) (neverUsed (nameOf (a .slots) i) 0) refl)
+      tidy-set (a .slots) t s (withName (file a s) (q .rename)) (seek-found (λ x. named x (q .name) 0) (a .slots) s y .low) lr
       (λ u j ne b k. found-none (q .rename) (a .slots) t v j b k)
-    where
-      go : (i : ℕ) → s < length (a .slots) → i < s → live (nameOf (a .slots) s) 0 ≡ true → (u : Bool) → neverUsed (nameOf (a .slots) i) 0 ≡ u
-          → u ≡ false
-      go i hs b l false e = refl
-      go i hs b l true e = absurd-bool l (t .solid i s b hs e)
 
 -- ---- of a ledger that image and table agree with
 

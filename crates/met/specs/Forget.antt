@@ -16,8 +16,7 @@ use Rattle.rules.specs.Stores.{Put, put, puts}
 use Rattle.rules.specs.Outcome.{Effect, answer, onBlock as putsOf}
 use Rattle.rules.specs.Image.{isSector}
 use Rattle.rules.specs.Names.{legal}
-use Rattle.rules.specs.Directory.{live, named, vacant, onSeen, placeOf}
-use Rattle.rules.specs.declared.Seen.{Seen}
+use Rattle.rules.specs.Directory.{live, named, vacant, placeOf}
 use Rattle.rules.specs.Block.{presettable, idle, activityIn, presetIn, extensionIn}
 use Rattle.rules.specs.Transfer.{takePuts, sent, shut, fresh}
 use Rattle.rules.specs.Files.{opened, writeProtected, deleteProtected}
@@ -323,7 +322,7 @@ module _ (M S : ℕ) (m m′ : List ℕ) (l : LikeForm M S m m′) where
 
 -- ---- searches, and what is shown
 
-seek-alike : (M S : ℕ) (look : List ℕ → Seen) (fs fs′ : List File) → length fs ≡ length fs′ → ((s : ℕ) → LikeFile M S (getD fs s noFile) (getD fs′ s noFile))
+seek-alike : (M S : ℕ) (look : List ℕ → Bool) (fs fs′ : List File) → length fs ≡ length fs′ → ((s : ℕ) → LikeFile M S (getD fs s noFile) (getD fs′ s noFile))
     → seek look fs ≡ seek look fs′
 unfolding seek
 seek-alike M S look [] [] c h = refl
@@ -331,7 +330,7 @@ seek-alike M S look [] (f ∷ fs′) c h = absurd (omega arith)
 seek-alike M S look (f ∷ fs) [] c h = absurd (omega arith)
 seek-alike M S look (f ∷ fs) (f′ ∷ fs′) c h =
     let r = seek-alike M S look fs fs′ (omega arith) (λ s. h (suc s)) in
-    λ i. onSeen (look (h 0 .twin .name i)) (slot 0) nowhere (later (r i))
+    λ i. pick (look (h 0 .twin .name i)) (slot 0) (later (r i))
 
 files-shown : (M S : ℕ) (bs : List Block) (s : ℕ) (fs fs′ : List File) → length fs ≡ length fs′ → ((s : ℕ) → LikeFile M S (getD fs s noFile) (getD fs′ s noFile))
     → shownFrom bs s fs ≡ shownFrom bs s fs′

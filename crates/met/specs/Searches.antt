@@ -7,23 +7,20 @@ use Prim.Native.Nat.{ℕ, zero, suc, _+_, _≤_, _<_}
 use native.Mathlib.Omega.{arith}
 use native.Mathlib.Decide.{ℕ-discrete}
 use lib.ListN.{length, getD, set}
-use borrow.Author.Tests.{eqb-false}
+use borrow.Author.Tests.{eqb-false, not-true}
 use Rattle.rules.specs.Bytes.{pick, part, same}
 use Rattle.rules.specs.Names.{legal}
-use Rattle.rules.specs.Directory.{slots, slotsOf, neverUsed, deleted, live, onSeen, scan, searchStops, named, vacant, lookupOf, find, vacancy, placeOf}
+use Rattle.rules.specs.Directory.{slots, slotsOf, neverUsed, deleted, live, scan, named, vacant, find, vacancy, placeOf}
 use Rattle.rules.specs.Block.{counts, uses, usedBelow, inUse}
-use Rattle.rules.specs.declared.Seen.{Seen}
-use Rattle.rules.specs.declared.Seen.the-variants.{Hit, Stop, Pass}
 use Rattle.rules.specs.declared.Lookup.{Lookup}
 use Rattle.rules.specs.declared.Lookup.the-variants.{At, Missing}
 use Rattle.laws.specs.Bytes.{part-at, part-same, part-all, length-part, same-eq}
 use Rattle.laws.specs.Addresses.{Shape}
+use Rattle.laws.specs.Tests.{both}
 use Rattle.chains.specs.Addresses.{absurd-bool}
 use Rattle.chains.specs.Directory.{Listing, directory-is, places-same}
 use Rattle.demands.specs.Ledger.{File, noFile, Block, closed, listing, reading, writing, Ledger, Sought, nowhere, slot, later, seek, fileNamed, vacantSlot, holdsOpen, busy}
 use Rattle.met.specs.Relation.{opens, writes, Keeps, Agrees}
-use Rattle.rules.specs.declared.Found.the-variants.{Stopped}
-use Rattle.rules.specs.declared.Found.the-variants.{Slot}
 
 -- ---- bytes of a part
 
@@ -52,11 +49,10 @@ pub live-at : (m nm : List ℕ) (o : ℕ) → part m o 11 ≡ nm → live m o �
 live-at m nm o e = live-same m nm o 0 (part-head m o 10 ∙ ap (λ (l : List ℕ). getD l 0 0) e)
 
 pub named-at : (m nm name : List ℕ) (o : ℕ) → part m o 11 ≡ nm → named m name o ≡ named nm name 0
-unfolding named searchStops neverUsed
+unfolding named
 named-at m nm name o e =
-    let h : getD m o 0 ≡ getD nm 0 0 = part-head m o 10 ∙ ap (λ (l : List ℕ). getD l 0 0) e in
     let l : part nm 0 11 ≡ nm = part-all nm 11 (ap length (sym e) ∙ length-part m o 11) in
-    rw (live-at m nm o e, h, e, l) refl
+    rw (live-at m nm o e, e, l) refl
 
 pub vacant-at : (m nm : List ℕ) (o : ℕ) → part m o 11 ≡ nm → vacant m o ≡ vacant nm 0
 unfolding vacant
@@ -72,29 +68,13 @@ pub record Named (x nm : List ℕ) : Type 0 where
   pub alive : live x 0 ≡ true
   pub same : part x 0 11 ≡ nm
 
-hit-pass : Hit ≡ Pass → ⊥
-hit-pass e = let y : _≡_ {A = ℕ} 0 1 = cc in omega arith
-
-hit-stop : Hit ≡ Stop → ⊥
-hit-stop e = let y : _≡_ {A = ℕ} 0 1 = cc in omega arith
-
-pub named-hit : (x nm : List ℕ) → named x nm 0 ≡ Hit → Named x nm
+pub named-hit : (x nm : List ℕ) → named x nm 0 ≡ true → Named x nm
 unfolding named
-named-hit x nm h = go (searchStops x 0) (live x 0) refl (same (part x 0 11) nm) refl h
-  where
-    go : (u v : Bool) → live x 0 ≡ v → (w : Bool) → same (part x 0 11) nm ≡ w → pick u Stop (pick v (pick w Hit Pass) Pass) ≡ Hit → Named x nm
-    go true v e w f h = absurd (hit-stop (sym h))
-    go false false e w f h = absurd (hit-pass (sym h))
-    go false true e false f h = absurd (hit-pass (sym h))
-    go false true e true f h = record { alive = e; same = same-eq (part x 0 11) nm f }
+named-hit x nm h = let q = both (live x 0) _ h in record { alive = q .0; same = same-eq (part x 0 11) nm (q .1) }
 
-pub vacant-hit : (x : List ℕ) → vacant x 0 ≡ Hit → live x 0 ≡ false
+pub vacant-hit : (x : List ℕ) → vacant x 0 ≡ true → live x 0 ≡ false
 unfolding vacant
-vacant-hit x h = go (live x 0) h
-  where
-    go : (u : Bool) → pick u Pass Hit ≡ Hit → u ≡ false
-    go true e = absurd (hit-pass (sym e))
-    go false e = refl
+vacant-hit x h = not-true (live x 0) h
 
 -- ---- one search
 
@@ -107,8 +87,8 @@ looked-later : (o : ℕ) (os : List ℕ) (x : Sought) → lookedUp os x ≡ look
 looked-later o os nowhere = refl
 looked-later o os (slot s) = refl
 
-pub scan-seek : (look : ℕ → Seen) (cls : List ℕ → Seen) (os : List ℕ) (fs : List File) → length fs ≡ length os
-    → ((i : ℕ) → i < length os → look (getD os i 0) ≡ cls ((getD fs i noFile) .name)) → lookupOf (scan look os) ≡ lookedUp os (seek cls fs)
+pub scan-seek : (look : ℕ → Bool) (cls : List ℕ → Bool) (os : List ℕ) (fs : List File) → length fs ≡ length os
+    → ((i : ℕ) → i < length os → look (getD os i 0) ≡ cls ((getD fs i noFile) .name)) → scan look os ≡ lookedUp os (seek cls fs)
 unfolding scan seek
 scan-seek look cls [] [] e h = refl
 scan-seek look cls [] (f ∷ fs) e h = absurd (omega arith)
@@ -116,15 +96,14 @@ scan-seek look cls (o ∷ os) [] e h = absurd (omega arith)
 scan-seek look cls (o ∷ os) (f ∷ fs) e h =
     rw (h 0 (omega arith)) (go (cls (f .name)) (scan-seek look cls os fs (omega arith) (λ i b. h (suc i) (omega arith))))
   where
-    go : (u : Seen) → lookupOf (scan look os) ≡ lookedUp os (seek cls fs)
-        → lookupOf (onSeen u (Slot o) Stopped (scan look os)) ≡ lookedUp (o ∷ os) (onSeen u (slot 0) nowhere (later (seek cls fs)))
-    go Hit ih = refl
-    go Stop ih = refl
-    go Pass ih = ih ∙ looked-later o os (seek cls fs)
+    go : (u : Bool) → scan look os ≡ lookedUp os (seek cls fs)
+        → pick u (At o) (scan look os) ≡ lookedUp (o ∷ os) (pick u (slot 0) (later (seek cls fs)))
+    go true ih = refl
+    go false ih = ih ∙ looked-later o os (seek cls fs)
 
-pub record Sat (cls : List ℕ → Seen) (fs : List File) (s : ℕ) : Type 0 where
+pub record Sat (cls : List ℕ → Bool) (fs : List File) (s : ℕ) : Type 0 where
   pub low : s < length fs
-  pub hit : cls ((getD fs s noFile) .name) ≡ Hit
+  pub hit : cls ((getD fs s noFile) .name) ≡ true
 
 pub slot-same : (x y : ℕ) → slot x ≡ slot y → x ≡ y
 slot-same x y e = cc
@@ -133,17 +112,16 @@ slot-not : (x : ℕ) → nowhere ≡ slot x → ⊥
 slot-not x e = let y : _≡_ {A = ℕ} 0 1 = cc in omega arith
 
 -- what is found is there
-pub seek-found : (cls : List ℕ → Seen) (fs : List File) (s : ℕ) → seek cls fs ≡ slot s → Sat cls fs s
+pub seek-found : (cls : List ℕ → Bool) (fs : List File) (s : ℕ) → seek cls fs ≡ slot s → Sat cls fs s
 unfolding seek
 seek-found cls [] s h = absurd (slot-not s h)
 seek-found cls (f ∷ fs) s h = go (cls (f .name)) refl (seek cls fs) refl h (λ t q. seek-found cls fs t q)
   where
-    go : (u : Seen) → cls (f .name) ≡ u → (x : Sought) → seek cls fs ≡ x → onSeen u (slot 0) nowhere (later x) ≡ slot s
+    go : (u : Bool) → cls (f .name) ≡ u → (x : Sought) → seek cls fs ≡ x → pick u (slot 0) (later x) ≡ slot s
         → ((t : ℕ) → seek cls fs ≡ slot t → Sat cls fs t) → Sat cls (f ∷ fs) s
-    go Hit e x y h ih = subst (λ (t : ℕ). Sat cls (f ∷ fs) t) (slot-same 0 s h) (record { low = omega arith; hit = e })
-    go Stop e x y h ih = absurd (slot-not s h)
-    go Pass e nowhere y h ih = absurd (slot-not s h)
-    go Pass e (slot t) y h ih =
+    go true e x y h ih = subst (λ (t : ℕ). Sat cls (f ∷ fs) t) (slot-same 0 s h) (record { low = omega arith; hit = e })
+    go false e nowhere y h ih = absurd (slot-not s h)
+    go false e (slot t) y h ih =
         subst (λ (t : ℕ). Sat cls (f ∷ fs) t) (slot-same (suc t) s h) (let p = ih t y in record { low = omega (arith, p .low); hit = p .hit })
 
 -- ---- of a ledger that image and table agree with

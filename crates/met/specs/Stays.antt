@@ -16,6 +16,7 @@ use Rattle.rules.specs.Image.{index, isSector}
 use Rattle.rules.specs.Directory.{live, slotsOf, member, placeOf}
 use Rattle.rules.specs.Block.{idle}
 use Rattle.rules.specs.Call.{served, fits}
+use Rattle.laws.specs.Tests.{neither}
 use Rattle.laws.specs.Bytes.{part-is, length-part, length-one}
 use Rattle.laws.specs.Stores.{length-puts, puts-append, puts-at}
 use Rattle.laws.specs.Addresses.{Shape}
@@ -33,7 +34,6 @@ use Rattle.met.specs.Meets.{ledgerBy, putsBy}
 use Rattle.met.specs.Searches.{part-part}
 use Rattle.met.specs.Picture.{entry-is, sector-is, image-is}
 use Rattle.met.specs.Changes.{Changes, changes, base-kept, Freed, same, fewer, more, freed}
-use Rattle.met.specs.Tidy.{pick-true}
 use Rattle.met.specs.Survey.{file-back}
 use Rattle.met.specs.Runs.{Fine, Likewise, Asked, asked, beyond, block-after, likewise-set, likewise-extend, likewise-refused, likewise-asked, step}
 use Rattle.met.specs.Sent.{called-of}
@@ -234,8 +234,8 @@ not-within lo hi p h u v = absurd-bool (rw (le-leb lo p u, le-leb p hi v) refl) 
 not-in-slot : (os : List ℕ) (p : ℕ) → inSlot p os ≡ false → (s : ℕ) → s < length os → getD os s 0 ≤ p → p < getD os s 0 + 24 → ⊥
 unfolding inSlot
 not-in-slot [] p h s b u v = absurd (omega arith)
-not-in-slot (o ∷ os) p h zero b u v = not-within o (o + 23) p (pick-true (within o (o + 23) p) (inSlot p os) h .0) u (omega arith)
-not-in-slot (o ∷ os) p h (suc s) b u v = not-in-slot os p (pick-true (within o (o + 23) p) (inSlot p os) h .1) s (omega arith) u v
+not-in-slot (o ∷ os) p h zero b u v = not-within o (o + 23) p (neither (within o (o + 23) p) (inSlot p os) h .0) u (omega arith)
+not-in-slot (o ∷ os) p h (suc s) b u v = not-in-slot os p (neither (within o (o + 23) p) (inSlot p os) h .1) s (omega arith) u v
 
 module _ (M S : ℕ) (ds : List ℕ) (y : Machine) (a : Ledger) (r : Agrees M S ds (y .img) (y .tab) a) where
   pub stays : (p : ℕ) → p < 256 * S → within 541 546 p ≡ false → inSlot p (slotsOf ds) ≡ false → getD (y .img) p 0 ≡ getD (a .base) p 0

@@ -7,10 +7,9 @@ use Prim.Native.Nat.{ℕ, zero, suc, _+_, _*_, _≤_, _<_}
 use native.Mathlib.Omega.{arith}
 use lib.ListN.{length, getD, replicate, getD-replicate}
 use lib.Seq.{ext-getD}
-use lib.Dec.{eqb}
 use Rattle.rules.specs.Bytes.{pick, wordAt, part}
 use Rattle.rules.specs.Image.{firstFree, freeCount}
-use Rattle.rules.specs.Directory.{live, neverUsed, directory, slots, slotsOf, startAt, endAt, sizeAt}
+use Rattle.rules.specs.Directory.{live, directory, slots, slotsOf, startAt, endAt, sizeAt}
 use Rattle.rules.specs.Census.{chainRight, numbersFrom, freeRight, fileRight, filesRight, fileNumbers, fileOwners, filesNumbers, filesOwners, listed, owners, eachOnce}
 use Rattle.laws.specs.Bytes.{length-part}
 use Rattle.laws.specs.Small.{Small}
@@ -26,12 +25,8 @@ use Rattle.demands.specs.Diskette.{sectorsAt, fileAt, filesAt, ledgerOf, ledger
 use Rattle.demands.specs.Ledger.{File, noFile, Block, closed, Ledger, secsOf}
 use Rattle.met.specs.Relation.{tb, writes, Holds, Keeps, Agrees}
 use Rattle.met.specs.Sectors.{free-data, free-count, secs-data, secs-count}
-use Rattle.met.specs.Searches.{live-at, part-head}
-use Rattle.met.specs.Tidy.{nameOf, Tidy, holed-sound, holed-complete, twins-sound, twins-complete}
-
-unused-part : (m : List ℕ) (o : ℕ) → neverUsed m o ≡ neverUsed (part m o 11) 0
-unfolding neverUsed
-unused-part m o = ap (λ (x : ℕ). eqb x 0) (part-head m o 10)
+use Rattle.met.specs.Searches.{live-at}
+use Rattle.met.specs.Tidy.{nameOf, Tidy, twins-sound, twins-complete}
 
 -- ---- the files of an image
 
@@ -226,8 +221,6 @@ module _ (M S : ℕ) (z : Shape M S) (img : List ℕ) (h : Sized M S img) (small
       λ i b. omega (arith, length-files S img (slotsOf ds)) in
       record {
         long = λ i b. ap length (name-at i (long i b)) ∙ length-part img (getD (slotsOf ds) i 0) 11;
-        solid = λ i j a b e. live-name j (long j b) ∙ holed-sound img (slotsOf ds) (sane .no-hole) i j a (long j b)
-            (unused-part img (getD (slotsOf ds) i 0) ∙ ap (λ (x : List ℕ). neverUsed x 0) (sym (name-at i (omega (arith, a, long j b)))) ∙ e);
         apart = λ i j ne a b u v w. two i j ne (long i a) (long j b) (sym (live-name i (long i a)) ∙ u) (sym (live-name j (long j b)) ∙ v)
             (sym (name-at i (long i a)) ∙ w ∙ name-at j (long j b));
       }
@@ -297,7 +290,6 @@ module _ (M S : ℕ) (z : Shape M S) (ds : List ℕ) (d : Listing S ds) (img tab
       let dr = directory-is M S z img ds d (r .dir) in
       record {
         right = dr .0;
-        no-hole = rw (dr .1) (holed-complete img (slotsOf ds) (λ i j x y e. live-back j y ∙ t .solid i j x (omega (arith, r .ns)) (unused-back i (omega arith) e)));
         no-twins =
             rw (dr .1) (twins-complete img (slotsOf ds) (λ i j x y u v w. t .apart i j (omega arith) (omega (arith, r .ns)) (omega (arith, r .ns))
             (sym (live-back i (omega arith)) ∙ u) (sym (live-back j y) ∙ v) (sym (r .holds i (omega arith) .name) ∙ w ∙ r .holds j y .name)));
@@ -306,7 +298,3 @@ module _ (M S : ℕ) (z : Shape M S) (ds : List ℕ) (d : Listing S ds) (img tab
         once = rw (listed-is S img tab) (ap (λ (l : List ℕ). eachOnce (M * S) (numbers S l)) (ap₂ (λ (x : List ℕ) (y : List File). x ++ flat secsOf y) ledger-free ledger-slots)
             ∙ once-complete M S (a .free ++ flat secsOf (a .slots)) (r .once));
       }
-    where
-      unused-back : (i : ℕ) → i < length (slotsOf ds) → neverUsed img (getD (slotsOf ds) i 0) ≡ true
-          → neverUsed ((getD (a .slots) i noFile) .name) 0 ≡ true
-      unused-back i b e = ap (λ (x : List ℕ). neverUsed x 0) (sym (r .holds i b .name)) ∙ sym (unused-part img (getD (slotsOf ds) i 0)) ∙ e

@@ -1,4 +1,5 @@
--- A start with two files, one write protected, on five sectors a track; with odd bytes where nobody looks, in image and blocks.
+-- A start with two files, one write protected, one behind slots that were never used, on five sectors a track; with odd bytes where nobody
+-- looks, in image and blocks.
 use mathlib.Core.Path.{_≡_, refl}
 use mathlib.Core.Bool.{Bool, true, false}
 use mathlib.Core.List.{List, [], _∷_, _++_}
@@ -29,7 +30,7 @@ txt = 84 ∷ 88 ∷ 84 ∷ []
 dat : List ℕ
 dat = 68 ∷ 65 ∷ 84 ∷ []
 
--- A.TXT, write protected, in sectors 7 and 5; a deleted slot; B.DAT in sector 8; 6 and 9 are free
+-- A.TXT, write protected, in sectors 7 and 5; a deleted slot; three that were never used; behind them B.DAT in sector 8; 6 and 9 are free
 unfoldable pub pairStores : List Store
 unfolding txt dat entry
 pairStores =
@@ -40,13 +41,23 @@ pairStores =
     ∷ store 4 8 (77 ∷ [])
     ∷ store 4 16 (entry 65 txt 128 (1 ∷ 3 ∷ 1 ∷ 1 ∷ 0 ∷ 2 ∷ []) (5 ∷ 6 ∷ 78 ∷ []))
     ∷ store 4 40 (entry 255 dat 0 (1 ∷ 1 ∷ 1 ∷ 1 ∷ 0 ∷ 1 ∷ []) (1 ∷ 1 ∷ 77 ∷ []))
-    ∷ store 4 64 (entry 66 dat 0 (1 ∷ 4 ∷ 1 ∷ 4 ∷ 0 ∷ 1 ∷ []) (7 ∷ 8 ∷ 79 ∷ []))
+    ∷ store 4 136 (entry 66 dat 0 (1 ∷ 4 ∷ 1 ∷ 4 ∷ 0 ∷ 1 ∷ []) (7 ∷ 8 ∷ 79 ∷ []))
     ∷ store 5 2 (0 ∷ 2 ∷ 20 ∷ 21 ∷ [])
     ∷ store 6 0 (1 ∷ 5 ∷ 9 ∷ 9 ∷ 88 ∷ [])
     ∷ store 7 0 (1 ∷ 1 ∷ 0 ∷ 1 ∷ 10 ∷ 11 ∷ 12 ∷ [])
     ∷ store 8 2 (0 ∷ 1 ∷ 30 ∷ 31 ∷ [])
     ∷ store 9 2 (0 ∷ 3 ∷ 99 ∷ [])
     ∷ []
+
+-- B.DAT's slot: its number, and where it begins; where the one before it begins, which was never used
+abbrev pub bDat : ℕ
+bDat = 5
+
+abbrev pub bDatAt : ℕ
+bDatAt = 1160
+
+abbrev pub gapAt : ℕ
+gapAt = 1136
 
 unfoldable pub pairImage : List ℕ
 pairImage = stored (zeros 2560) pairStores
@@ -64,7 +75,7 @@ leftForm code c ext date position =
     ++ (202 ∷ 202
     ∷ (position
     ++ (replicate 15 203
-    ++ (0 ∷ 5 ∷ 64 ∷ 203 ∷ 203 ∷ 203 ∷ 69
+    ++ (0 ∷ 5 ∷ 136 ∷ 203 ∷ 203 ∷ 203 ∷ 69
     ∷ (zeros 7
     ++ (dat
     ++ replicate 256 204)))))))))

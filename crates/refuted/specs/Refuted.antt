@@ -1,7 +1,7 @@
 -- No fake meets the demands. Each is run on the start with two files, or on odd bytes, and a clause gives an equation of two numbers that
 -- differ; beside it, that ours passes the same clause at the same point.
 use mathlib.Core.Path.{_≡_, refl, sym, ap, _∙_}
-use mathlib.Core.Bool.{false}
+use mathlib.Core.Bool.{true, false}
 use mathlib.Core.List.{List, [], _∷_}
 use Prim.Native.Nat.{ℕ}
 use native.Mathlib.Omega.{arith}
@@ -9,7 +9,7 @@ use lib.Dec.{eqb}
 use lib.ListN.{length, getD}
 use borrow.Author.Tests.{eq-eqb}
 use Rattle.rules.specs.Bytes.{part, byteAt, over, one, zeros}
-use Rattle.rules.specs.Directory.{sizeAt}
+use Rattle.rules.specs.Directory.{neverUsed, live, sizeAt}
 use Rattle.rules.specs.Outcome.{Out}
 use Rattle.rules.specs.Census.{Survey, survey}
 use Rattle.rules.specs.All.{rules}
@@ -18,9 +18,9 @@ use Rattle.demands.specs.Ledger.{Call, setting, asking, file, entryOf, tableOf,
 use Rattle.demands.specs.Diskette.{ledgerNumbers, ledgerOwners}
 use Rattle.demands.specs.Service.{Service, flex, saysOf, leftOf, ansOf, imgOf, tabOf, answers, gave, next, run}
 use Rattle.demands.specs.Demands.{Lent, surveyAnswer, begun, told, wholly, Demand1, Demand2, Demand3, nameOf, ledgerAfter, ReadBack, Kept, WrittenTo, Created}
-use Rattle.demands.specs.Fakes.{withCall, refusing, deaf, idling, stuck, nodding, eager, counting, inventing, meddling, deleting, misextending, wiping, mislisting, misnoting, scrambling, stingy, swapping, booting, misplacing, stalling, purging, softening}
+use Rattle.demands.specs.Fakes.{withCall, refusing, deaf, idling, stuck, nodding, eager, counting, inventing, meddling, deleting, misextending, wiping, mislisting, misnoting, scrambling, stingy, swapping, booting, misplacing, stalling, purging, softening, stopping}
 use Rattle.refuted.specs.All.{demands}
-use Rattle.refuted.specs.Pair.{pairImage, pair, pair-start, paired}
+use Rattle.refuted.specs.Pair.{bDat, bDatAt, gapAt, pairImage, pair, pair-start, paired}
 
 differ : (x y : ℕ) → eqb x y ≡ false → x ≡ y → ⊥
 differ x y h e = never (sym h ∙ eq-eqb x y e)
@@ -183,9 +183,9 @@ unfolding rules demands paired
 stuck-ours = refl
 
 -- `accepts`: D.TXT takes a free sector, the first byte of C.TXT the last one; the second byte needs none
-stingy-made : Demand2 stingy → Created stingy 1 5 (run stingy pair (asking 5 0 ∷ asking 5 8 ∷ [])) (told stingy pair (asking 5 0 ∷ asking 5 8 ∷ [])) 0 3 0
+stingy-made : Demand2 stingy → Created stingy 1 5 (run stingy pair (asking 5 0 ∷ asking 5 8 ∷ [])) (told stingy pair (asking 5 0 ∷ asking 5 8 ∷ [])) 0 2 0
 unfolding rules demands paired
-stingy-made d = d .creates pair pair-start (asking 5 0 ∷ asking 5 8 ∷ []) 0 3 0 (record { block = omega arith; function = refl; drive = refl }) refl refl refl refl
+stingy-made d = d .creates pair pair-start (asking 5 0 ∷ asking 5 8 ∷ []) 0 2 0 (record { block = omega arith; function = refl; drive = refl }) refl refl refl refl
 
 pub stingy-fails : Demand2 stingy → ⊥
 unfolding rules demands paired
@@ -213,6 +213,16 @@ idling-ours = (refl, refl)
 pub deaf-ours-too : Both (answers flex pair (asking 0 0)) (reply (fate 1 5 (begun pair) (asking 0 0))) 0
 unfolding rules demands paired
 deaf-ours-too = (refl, refl)
+
+-- and block 1 opens B.DAT, which stands behind a slot that was never used: a start that the census accepts
+pub stopping-fails : Demand3 stopping → ⊥
+unfolding rules demands paired
+stopping-fails d = differ 4 0 refl (d pair pair-start (asking 1 0 ∷ []) .answered .0)
+
+pub stopping-ours : (neverUsed (pair .img) gapAt ≡ true) × (live (pair .img) bDatAt ≡ true)
+    × Both (answers flex pair (asking 1 0)) (reply (fate 1 5 (begun pair) (asking 1 0))) 0
+unfolding rules demands paired
+stopping-ours = (refl, refl, (refl, refl))
 
 -- `accepted`: five sectors; the third, A.TXT's first, is slot 1's
 abbrev numbersIn : Survey → List ℕ
@@ -286,9 +296,9 @@ mislisting-ours = (refl, refl)
 -- `spared`: B.DAT's slot while block 1 opens it; its sector while block 0 makes C.TXT
 pub deleting-fails : Demand3 deleting → ⊥
 unfolding rules demands paired
-deleting-fails d = differ 255 66 refl (ap (λ (m : List ℕ). byteAt m 0) (d pair pair-start (asking 1 0 ∷ []) .spared 2 (omega arith) refl (refl, refl, tt) .0))
+deleting-fails d = differ 255 66 refl (ap (λ (m : List ℕ). byteAt m 0) (d pair pair-start (asking 1 0 ∷ []) .spared bDat (omega arith) refl (refl, refl, tt) .0))
 
-pub deleting-ours : Both (byteAt (part (run flex pair (asking 1 0 ∷ []) .img) 1088 24) 0) (byteAt (part (pair .img) 1088 24) 0) 66
+pub deleting-ours : Both (byteAt (part (run flex pair (asking 1 0 ∷ []) .img) bDatAt 24) 0) (byteAt (part (pair .img) bDatAt 24) 0) 66
 unfolding rules demands paired
 deleting-ours = (refl, refl)
 
@@ -297,7 +307,7 @@ recordByte m = byteAt (getD m 0 []) 3
 
 pub scrambling-fails : Demand3 scrambling → ⊥
 unfolding rules demands paired
-scrambling-fails d = differ 7 1 refl (ap recordByte (d pair pair-start (asking 0 0 ∷ []) .spared 2 (omega arith) refl (refl, refl, tt) .2))
+scrambling-fails d = differ 7 1 refl (ap recordByte (d pair pair-start (asking 0 0 ∷ []) .spared bDat (omega arith) refl (refl, refl, tt) .2))
 
 pub scrambling-ours : Both (recordByte (wholly (run flex pair (asking 0 0 ∷ []) .img) (8 ∷ []))) (recordByte (wholly (pair .img) (8 ∷ []))) 1
 unfolding rules demands paired

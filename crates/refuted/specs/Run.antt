@@ -85,7 +85,7 @@ factsOf a = record {
 
 abbrev theFacts : Facts
 theFacts = record {
-  blocks = writing 1 (70 ∷ 71 ∷ []) ∷ reading 0 1 5 ∷ closed ∷ listing 2 ∷ closed ∷ closed ∷ closed ∷ writing 4 [] ∷ [];
+  blocks = writing 1 (70 ∷ 71 ∷ []) ∷ reading 0 1 5 ∷ closed ∷ listing 2 ∷ closed ∷ closed ∷ closed ∷ writing 3 [] ∷ [];
   codes = 0 ∷ 7 ∷ 9 ∷ [];
   drives = 0 ∷ 0 ∷ 0 ∷ [];
   numbers = 261 ∷ 10 ∷ 11 ∷ [];

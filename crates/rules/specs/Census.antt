@@ -4,25 +4,16 @@ use mathlib.Core.List.{List, [], _∷_, _++_}
 use Prim.Native.Nat.{ℕ, zero, suc, _+_, _*_}
 use lib.ListN.{length, replicate}
 use lib.Dec.{eqb, leb}
-use Rattle.rules.specs.Bytes.{pick, part, same}
+use Rattle.rules.specs.Bytes.{pick, part}
 use Rattle.rules.specs.Image.{shapeRight, lastTrack, perTrack, index, isData, dataNumber, linkOf, firstFree, lastFree, freeCount}
-use Rattle.rules.specs.Directory.{directoryRight, slots, neverUsed, live, startAt, endAt, sizeAt}
+use Rattle.rules.specs.Directory.{directoryRight, slots, live, named, startAt, endAt, sizeAt}
 
 -- ---- names
 
-unfoldable pub anyLive : List ℕ → List ℕ → Bool
-anyLive img [] = false
-anyLive img (o ∷ os) = pick (live img o) true (anyLive img os)
-
--- "a live slot after a never-used one"
-unfoldable pub holed : List ℕ → List ℕ → Bool
-holed img [] = false
-holed img (o ∷ os) = pick (pick (neverUsed img o) (anyLive img os) false) true (holed img os)
-
--- a live slot among these has the slot's eleven bytes
+-- one of these slots has the slot's eleven bytes as its name
 unfoldable pub namesake : List ℕ → ℕ → List ℕ → Bool
 namesake img slot [] = false
-namesake img slot (o ∷ os) = pick (pick (live img o) (same (part img slot 11) (part img o 11)) false) true (namesake img slot os)
+namesake img slot (o ∷ os) = pick (named img (part img slot 11) o) true (namesake img slot os)
 
 -- "two live slots with equal eleven bytes"
 unfoldable pub twins : List ℕ → List ℕ → Bool
@@ -32,14 +23,15 @@ twins img (o ∷ os) = pick (pick (live img o) (namesake img o os) false) true (
 -- ---- chains
 
 -- n sectors by links: from the address a on, which stands behind the address before. "it has that many data sectors by links, the last is
--- the stated end and links to 0,0; count 0 has both addresses 0,0": where none is left, a is 0,0 and before is the end
+-- the stated end and links to 0,0": where none is left, a is 0,0 and before is the end
 unfoldable pub runsOut : List ℕ → ℕ → ℕ → ℕ → ℕ → ℕ → ℕ → Bool
 runsOut img M S end zero before a = pick (eqb a 0) (eqb before end) false
 runsOut img M S end (suc n) before a = pick (isData M S a) (runsOut img M S end n a (linkOf img (index S a))) false
 
--- "A chain is right if its count is at most M·S, .."
+-- "count 0 has both addresses 0,0"; "A chain is right if its count is at most M·S, .."
 unfoldable pub chainRight : List ℕ → ℕ → ℕ → ℕ → ℕ → ℕ → Bool
-chainRight img M S start end count = pick (leb count (M * S)) (runsOut img M S end count 0 start) false
+chainRight img M S start end zero = pick (eqb start 0) (eqb end 0) false
+chainRight img M S start end (suc n) = pick (leb (suc n) (M * S)) (runsOut img M S end (suc n) 0 start) false
 
 -- the numbers of n data sectors by links, from the address a on
 unfoldable pub numbersFrom : List ℕ → ℕ → ℕ → ℕ → List ℕ
@@ -97,18 +89,23 @@ eachOnce (suc n) xs = pick (eqb (tally n xs) 1) (eachOnce n xs) false
 pub data Survey : Type 0 where
   survey : ℕ → List ℕ → List ℕ → Survey
 
--- "42 directory; 43 ..; 44 free chain; 45 a live file's chain .. 46: the chains together don't hold each data sector once."; 0: none of these
+-- a refusal beside its test: unless the test holds, and when it holds
+abbrev pub unless : {A : Type 0} → Bool → A → A → A
+unless ok refusal next = pick ok next refusal
+
+abbrev pub when : {A : Type 0} → Bool → A → A → A
+when bad refusal next = pick bad refusal next
+
+-- "42 directory; 43 .. two live slots with equal eleven bytes; 44 free chain; 45 a live file's chain .. 46: the chains together don't hold
+-- each data sector once."; 02: "43 loses its first half"; 0: none of these
 unfoldable pub fault : List ℕ → ℕ → ℕ → ℕ
 fault img M S =
-    pick (directoryRight img S)
-    (pick (pick (holed img (slots img S)) true (twins img (slots img S))) 43
-    (pick (freeRight img M S)
-    (pick (filesRight img M S (slots img S))
-    (pick (eachOnce (M * S) (listed img S)) 0
-    46)
-    45)
-    44))
-    42
+    unless (directoryRight img S) 42
+    (when (twins img (slots img S)) 43
+    (unless (freeRight img M S) 44
+    (unless (filesRight img M S (slots img S)) 45
+    (unless (eachOnce (M * S) (listed img S)) 46
+    0))))
 
 -- "42-46 fill both outputs with 65,535. Accepted: answer 0; .."
 unfoldable pub concluded : List ℕ → ℕ → ℕ → ℕ → Survey
@@ -118,10 +115,7 @@ concluded img S n e =
 -- "Order: 41 shape; 40 unless both outputs have M·S entries .. 40 and 41 change nothing"
 unfoldable pub census : List ℕ → List ℕ → List ℕ → Survey
 census img xs ys =
-    pick (shapeRight img)
-    (pick (eqb (length xs) (lastTrack img * perTrack img))
-    (pick (eqb (length ys) (lastTrack img * perTrack img))
-    (concluded img (perTrack img) (lastTrack img * perTrack img) (fault img (lastTrack img) (perTrack img)))
-    (survey 40 xs ys))
-    (survey 40 xs ys))
-    (survey 41 xs ys)
+    unless (shapeRight img) (survey 41 xs ys)
+    (unless (eqb (length xs) (lastTrack img * perTrack img)) (survey 40 xs ys)
+    (unless (eqb (length ys) (lastTrack img * perTrack img)) (survey 40 xs ys)
+    (concluded img (perTrack img) (lastTrack img * perTrack img) (fault img (lastTrack img) (perTrack img)))))

@@ -1,5 +1,5 @@
 -- 01, "Image": the directory, its slots, the name search, places. A directory sector is its index, a slot where it begins in the image.
-use mathlib.Core.Bool.{Bool, true, false}
+use mathlib.Core.Bool.{Bool, true, false, not}
 use mathlib.Core.List.{List, [], _∷_, _++_}
 use Prim.Native.Nat.{ℕ, zero, suc, _+_, _-_, _*_, _/_, _%_}
 use lib.Dec.{eqb, leb, ltb}
@@ -7,10 +7,6 @@ use Rattle.rules.specs.Bytes.{pick, within, byteAt, wordAt, part, same}
 use Rattle.rules.specs.Image.{trackOf, sectorOf, index, linkOf}
 use Rattle.rules.specs.declared.Next.{Next}
 use Rattle.rules.specs.declared.Next.the-variants.{End, To, Astray}
-use Rattle.rules.specs.declared.Seen.{Seen}
-use Rattle.rules.specs.declared.Seen.the-variants.{Hit, Stop, Pass}
-use Rattle.rules.specs.declared.Found.{Found}
-use Rattle.rules.specs.declared.Found.the-variants.{Slot, Stopped, Further}
 use Rattle.rules.specs.declared.Lookup.{Lookup}
 use Rattle.rules.specs.declared.Lookup.the-variants.{At, Missing, Broken}
 
@@ -79,39 +75,22 @@ deleted img slot = leb 128 (byteAt img slot)
 unfoldable pub live : List ℕ → ℕ → Bool
 live img slot = pick (neverUsed img slot) false (pick (deleted img slot) false true)
 
-abbrev pub onSeen : {A : Type 0} → Seen → A → A → A → A
-onSeen Hit h s p = h
-onSeen Stop h s p = s
-onSeen Pass h s p = p
+-- the first of these slots that is one looked for
+unfoldable pub scan : (ℕ → Bool) → List ℕ → Lookup
+scan wanted [] = Missing
+scan wanted (o ∷ os) = pick (wanted o) (At o) (scan wanted os)
 
--- the first of these slots that is a hit, before one where the scan stops
-unfoldable pub scan : (ℕ → Seen) → List ℕ → Found
-scan look [] = Further
-scan look (o ∷ os) = onSeen (look o) (Slot o) Stopped (scan look os)
+-- the first such slot of a directory that is right
+abbrev pub inDirectory : List ℕ → ℕ → (ℕ → Bool) → Lookup
+inDirectory img S wanted = pick (directoryRight img S) (scan wanted (slots img S)) Broken
 
--- "A name search goes in order and stops at the first never-used slot."
-unfoldable pub searchStops : List ℕ → ℕ → Bool
-searchStops img slot = neverUsed img slot
+-- 02, "The name search is to go to the end": a live slot with this name, wherever it stands
+unfoldable pub named : List ℕ → List ℕ → ℕ → Bool
+named img name slot = pick (live img slot) (same (part img slot 11) name) false
 
-unfoldable pub named : List ℕ → List ℕ → ℕ → Seen
-named img name slot =
-    pick (searchStops img slot) Stop
-    (pick (live img slot)
-    (pick (same (part img slot 11) name) Hit Pass)
-    Pass)
-
--- "the first deleted or never-used slot in order"
-unfoldable pub vacant : List ℕ → ℕ → Seen
-vacant img slot = pick (live img slot) Pass Hit
-
-abbrev pub lookupOf : Found → Lookup
-lookupOf (Slot o) = At o
-lookupOf Stopped = Missing
-lookupOf Further = Missing
-
--- the first hit of a directory that is right
-abbrev pub inDirectory : List ℕ → ℕ → (ℕ → Seen) → Lookup
-inDirectory img S look = pick (directoryRight img S) (lookupOf (scan look (slots img S))) Broken
+-- 02, "The first deleted or never-used slot is still the one reused."
+unfoldable pub vacant : List ℕ → ℕ → Bool
+vacant img slot = not (live img slot)
 
 unfoldable pub find : List ℕ → ℕ → List ℕ → Lookup
 find img S name = inDirectory img S (named img name)

@@ -5,7 +5,7 @@ use lib.ListN.{length, replicate}
 use lib.Dec.{eqb}
 use Rattle.rules.specs.Bytes.{pick, two}
 use Rattle.rules.specs.Image.{shapeRight, lastTrack, perTrack}
-use Rattle.rules.specs.Census.{Survey, survey, listed, owners, fault}
+use Rattle.rules.specs.Census.{unless, Survey, survey, listed, owners, fault}
 
 -- "there an answer with its byte comes as 256 times the answer plus the byte"
 abbrev pub packed : ℕ → ℕ → ℕ
@@ -23,10 +23,7 @@ hostConcluded img S n e =
 
 unfoldable pub hostCensus : List ℕ → List ℕ → List ℕ → Survey
 hostCensus img xs ys =
-    pick (shapeRight img)
-    (pick (eqb (length xs) (2 * (lastTrack img * perTrack img)))
-    (pick (eqb (length ys) (2 * (lastTrack img * perTrack img)))
-    (hostConcluded img (perTrack img) (2 * (lastTrack img * perTrack img)) (fault img (lastTrack img) (perTrack img)))
-    (survey 40 xs ys))
-    (survey 40 xs ys))
-    (survey 41 xs ys)
+    unless (shapeRight img) (survey 41 xs ys)
+    (unless (eqb (length xs) (2 * (lastTrack img * perTrack img))) (survey 40 xs ys)
+    (unless (eqb (length ys) (2 * (lastTrack img * perTrack img))) (survey 40 xs ys)
+    (hostConcluded img (perTrack img) (2 * (lastTrack img * perTrack img)) (fault img (lastTrack img) (perTrack img)))))

@@ -7,20 +7,6 @@ pub enum Next {
     Astray,
 }
 
-// What a scan of the slots makes of one: it is what is looked for, the scan ends here, or it goes on.
-pub enum Seen {
-    Hit,
-    Stop,
-    Pass,
-}
-
-// How a scan ended: at a slot (by where it begins in the image), at a stop, or behind the last slot.
-pub enum Found {
-    Slot(u32),
-    Stopped,
-    Further,
-}
-
 // A slot that was asked for (by where it begins in the image), or why there is none.
 pub enum Lookup {
     At(u32),

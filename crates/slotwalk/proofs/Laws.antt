@@ -6,8 +6,8 @@ use Prim.Native.Nat.{ℕ, _+_, _-_, _*_, _≤_, _<_}
 use native.Mathlib.Omega.{arith}
 use lib.ListN.{length, replicate, length-replicate}
 use Rattle.rules.specs.Bytes.{pick, part, over, same}
-use Rattle.rules.specs.Directory.{live, neverUsed, slotBehind, slots, sizeAt}
-use Rattle.rules.specs.Census.{anyLive, holed, namesake, twins, fileOwners, filesOwners}
+use Rattle.rules.specs.Directory.{live, named, slotBehind, slots, sizeAt}
+use Rattle.rules.specs.Census.{namesake, twins, fileOwners, filesOwners}
 use Rattle.laws.specs.Bytes.{over-none, over-append}
 use Rattle.rules.specs.declared.Lookup.{Lookup}
 use Rattle.rules.specs.declared.Lookup.the-variants.{At, Missing, Broken}
@@ -17,77 +17,14 @@ use Rattle.census_laws.specs.Turns.{few-data}
 use Rattle.census_laws.specs.Walks.{Laid, laid, file, files, file-kept, file-place}
 use Rattle.census_laws.specs.Visits.{visits, mostSlots, firstSlot, slots-visits, pass-none, pass-here, pass-next, pass-last, pass-broken}
 
--- ---- any live
-module _ (img : List ℕ) (S n o : ℕ) {w : Bool} (v : w ≡ anyLive img (visits img S n o)) where
-  pub any-none : n ≤ 0 → false ≡ w
-  unfolding anyLive
-  any-none h = pass-none (anyLive img) img S n o v h
-
-  module _ {a : Bool} (h : 0 < n) (q : a ≡ live img o) where
-    pub any-here : a ≡ true → true ≡ w
-    unfolding anyLive
-    any-here t = rw (pass-here (anyLive img) img S n o v h, ← q, t) refl
-
-    module _ {l : Lookup} (t : a ≡ false) (e : l ≡ slotBehind img S o) where
-      pub any-next : {p : ℕ} → l ≡ At p → w ≡ anyLive img (visits img S (n - 1) p)
-      unfolding anyLive
-      any-next k = rw (pass-next (anyLive img) img S n o v h e k, ← q, t) refl
-
-      pub any-last : l ≡ Missing → false ≡ w
-      unfolding anyLive
-      any-last k = rw (pass-last (anyLive img) img S n o v h e k, ← q, t) refl
-
-      pub any-broken : l ≡ Broken → false ≡ w
-      unfolding anyLive
-      any-broken k = rw (pass-broken (anyLive img) img S n o v h e k, ← q, t) refl
-
 -- the first turn of a pass over all slots
 module _ {A : Type 0} (pass : List ℕ → A) (img : List ℕ) (S n : ℕ) (h : n ≡ mostSlots S) where
   first : pass (slots img S) ≡ pass (visits img S n firstSlot)
   first = rw (h, slots-visits img S) refl
 
--- ---- a live slot behind one that was never used
-holed-live : (img os : List ℕ) → pick (anyLive img os) true (holed img os) ≡ anyLive img os
-unfolding anyLive holed
-holed-live img [] = refl
-holed-live img (o ∷ os) = go (live img o) (neverUsed img o) (anyLive img os) (holed img os) (holed-live img os)
-  where
-    go : (a b c d : Bool) → pick c true d ≡ c → pick (pick a true c) true (pick (pick b c false) true d) ≡ pick a true c
-    go true b c d h = refl
-    go false true true d h = refl
-    go false true false d h = h
-    go false false true d h = refl
-    go false false false d h = h
-
 alone : (b : Bool) → pick (pick b false false) true false ≡ false
 alone true = refl
 alone false = refl
-
-pub holed-first : (img : List ℕ) (S n : ℕ) → n ≡ mostSlots S → holed img (slots img S) ≡ holed img (visits img S n firstSlot)
-holed-first img S n h = first (holed img) img S n h
-
-module _ (img : List ℕ) (S n o : ℕ) {w : Bool} (v : w ≡ holed img (visits img S n o)) where
-  pub holed-none : n ≤ 0 → false ≡ w
-  unfolding holed
-  holed-none h = pass-none (holed img) img S n o v h
-
-  module _ {l : Lookup} (h : 0 < n) (e : l ≡ slotBehind img S o) where
-    pub holed-last : l ≡ Missing → false ≡ w
-    unfolding holed anyLive
-    holed-last k = sym (pass-last (holed img) img S n o v h e k ∙ alone (neverUsed img o))
-
-    pub holed-broken : l ≡ Broken → false ≡ w
-    unfolding holed anyLive
-    holed-broken k = sym (pass-broken (holed img) img S n o v h e k ∙ alone (neverUsed img o))
-
-    module _ {p : ℕ} {a : Bool} (k : l ≡ At p) (q : a ≡ neverUsed img o) where
-      pub holed-new : {r : Bool} → a ≡ true → r ≡ anyLive img (visits img S (n - 1) p) → r ≡ w
-      unfolding holed
-      holed-new t d = d ∙ sym (rw (pass-next (holed img) img S n o v h e k, ← q, t) (holed-live img (visits img S (n - 1) p)))
-
-      pub holed-next : a ≡ false → w ≡ holed img (visits img S (n - 1) p)
-      unfolding holed
-      holed-next t = rw (pass-next (holed img) img S n o v h e k, ← q, t) refl
 
 -- ---- two live slots with one name
 module _ (img : List ℕ) (this S n o : ℕ) {w : Bool} (v : w ≡ namesake img this (visits img S n o)) where
@@ -95,7 +32,7 @@ module _ (img : List ℕ) (this S n o : ℕ) {w : Bool} (v : w ≡ namesake img 
   unfolding namesake
   namesake-none h = pass-none (namesake img this) img S n o v h
 
-  module _ {a : Bool} (h : 0 < n) (q : a ≡ pick (live img o) (same (part img this 11) (part img o 11)) false) where
+  module _ {a : Bool} (h : 0 < n) (q : a ≡ named img (part img this 11) o) where
     pub namesake-here : a ≡ true → true ≡ w
     unfolding namesake
     namesake-here t = rw (pass-here (namesake img this) img S n o v h, ← q, t) refl

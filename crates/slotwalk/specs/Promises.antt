@@ -3,12 +3,9 @@ use mathlib.Core.List.{List}
 use Prim.Native.Nat.{ℕ}
 use Rattle.rules.specs.Bytes.{over}
 use Rattle.rules.specs.Directory.{slots}
-use Rattle.rules.specs.Census.{holed, twins, filesOwners}
+use Rattle.rules.specs.Census.{twins, filesOwners}
 use Rattle.laws.specs.Single.{Single, single}
 use Rattle.census_laws.specs.Walks.{files, SingleLaid, single-laid}
-
-pub is-holed-single : (img : List ℕ) (S : ℕ) → Single (holed img (slots img S))
-is-holed-single img S = single (holed img (slots img S))
 
 pub has-twins-single : (img : List ℕ) (S : ℕ) → Single (twins img (slots img S))
 has-twins-single img S = single (twins img (slots img S))

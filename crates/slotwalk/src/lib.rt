@@ -2,12 +2,11 @@
 ghost use mathlib.Core.Path.{_≡_};
 ghost use Prim.Native.Nat.{_*_, _≤_};
 ghost use mathlib.Core.Bool.{false};
-ghost use Rattle.rules.specs.Bytes.{pick, part, over, same};
-ghost use Rattle.rules.specs.Directory.{live, neverUsed, slots, sizeAt};
-ghost use Rattle.rules.specs.Census.{anyLive, holed, namesake, twins, filesOwners};
+ghost use Rattle.rules.specs.Bytes.{pick, part, over};
+ghost use Rattle.rules.specs.Directory.{live, named, slots, sizeAt};
+ghost use Rattle.rules.specs.Census.{namesake, twins, filesOwners};
 ghost use Rattle.census_laws.specs.Visits.{visits, mostSlots};
 ghost use Rattle.census_laws.specs.Walks.{laid, file, files};
-use cells::get;
 use cells::get2;
 use census_laws::Listing;
 use chainwalk::chain_at;
@@ -18,14 +17,6 @@ use directory::slot_behind;
 use outputs::run;
 use rules::Lookup;
 
-// Was a slot never used?
-fn is_new(image: &[u8], slot: u32) -> bool
-    ensures { λ r. ⌜ r ≡ neverUsed (now (image .entry)) slot ⌝ }
-{
-    let b = get(image, slot as usize);
-    b == 0
-}
-
 // How many slots a directory has at most.
 fn most_slots(per: u8) -> u16
     ensures { λ r. ⌜ (r ≡ mostSlots per) × (r ≤ 2510) ⌝ }
@@ -33,61 +24,16 @@ fn most_slots(per: u8) -> u16
     10 * most_of(per) as u16
 }
 
-// Is one of so many slots live, from a slot on?
-fn any_live(image: &[u8], per: u8, first: u32, count: u16) -> bool
-    ensures { λ r. ⌜ r ≡ anyLive (now (image .entry)) (visits (now (image .entry)) per count first) ⌝ }
-{
-    let mut left = count;
-    let mut slot = first;
-    while left > 0 {
-        let alive = is_live(image, slot);
-        if alive {
-            return true;
-        }
-        let next = slot_behind(image, per, slot);
-        match next {
-            Lookup::At(behind) => slot = behind,
-            Lookup::Missing => return false,
-            Lookup::Broken => return false,
-        }
-        left -= 1;
-    }
-    false
-}
-
-// Is a live slot behind one that was never used?
-pub fn is_holed(image: &[u8], per: u8) -> bool
-    ensures { λ r. ⌜ r ≡ holed (now (image .entry)) (slots (now (image .entry)) per) ⌝ }
-{
-    let mut left = most_slots(per);
-    let mut slot = 1040u32;
-    while left > 0 {
-        let next = slot_behind(image, per, slot);
-        match next {
-            Lookup::At(behind) => {
-                let new = is_new(image, slot);
-                if new {
-                    return any_live(image, per, behind, left - 1);
-                }
-                slot = behind;
-            }
-            Lookup::Missing => return false,
-            Lookup::Broken => return false,
-        }
-        left -= 1;
-    }
-    false
-}
-
-// Is a slot live with the name of this one?
+// Is a slot live with the name of this one? The census asks that of each pair, and a call of directory's own test for it, in
+// another crate, would cost a tenth of its time.
 fn is_namesake(image: &[u8], this: u32, slot: u32) -> bool
-    ensures { λ r. ⌜ r ≡ pick (live (now (image .entry)) slot) (same (part (now (image .entry)) this 11) (part (now (image .entry)) slot 11)) false ⌝ }
+    ensures { λ r. ⌜ r ≡ named (now (image .entry)) (part (now (image .entry)) this 11) slot ⌝ }
 {
     let alive = is_live(image, slot);
     if !alive {
         return false;
     }
-    same_name(image, this, image, slot as usize)
+    same_name(image, slot, image, this as usize)
 }
 
 // Is one of so many slots live with the name of this one, from a slot on?

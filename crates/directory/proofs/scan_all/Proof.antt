@@ -3,7 +3,7 @@ use borrow.Author.Needs.{needs}
 use Rattle.rules.specs.Bytes.{part}
 use Rattle.rules.specs.Directory.{sectorsFrom, slotsOf, slots, scan}
 use Rattle.directory.specs.Sought.{looked}
-use Rattle.directory.proofs.Laws.{all-from, all-slot, all-stop, all-end, all-astray, all-to, all-out}
+use Rattle.directory.proofs.Laws.{all-from, all-at, all-broken, all-end, all-astray, all-to, all-out}
 use Rattle.directory.proofs.scan_all.Statement.{statement}
 use Rattle.directory.proofs.scan_all.Tie as tie
 
@@ -18,6 +18,6 @@ scan-all-spec =
     tie.close
     (tie.spec
     Inv-loop μ-loop (λ c κs. search needs) (λ c. search all-from) (λ c κs. search needs) (λ c. search needs)
-    (λ c. search all-slot) (λ c. search needs) (λ c. search all-stop) (λ c. search needs) (λ c κs. search needs)
-    (λ c. search needs) (λ c. search all-end) (λ c. search needs) (λ c. search all-astray) (λ c. search needs)
-    (λ c. search needs) (λ c. search needs) (λ c. search all-to) (λ c. search all-out))
+    (λ c. search all-at) (λ c. search needs) (λ c. search needs) (λ c. search all-broken) (λ c κs. search needs)
+    (λ c. search needs) (λ c. search all-end) (λ c. search needs) (λ c. search all-astray)
+    (λ c. search needs) (λ c. search needs) (λ c. search needs) (λ c. search all-to) (λ c. search all-out))

@@ -5,7 +5,7 @@ use borrow.Author.Needs.{needs}
 use Rattle.rules.specs.Bytes.{part}
 use Rattle.rules.specs.Directory.{slotsAt, firstSlotOf, scan}
 use Rattle.directory.specs.Sought.{looked}
-use Rattle.directory.proofs.Laws.{scan-hit, scan-stop, scan-pass, scan-out}
+use Rattle.directory.proofs.Laws.{scan-hit, scan-on, scan-out}
 use Rattle.directory.proofs.scan_sector.Statement.{statement}
 use Rattle.directory.proofs.scan_sector.Tie as tie
 
@@ -20,6 +20,5 @@ scan-sector-spec =
     tie.close
     (tie.spec
     Inv-loop μ-loop (λ c. search needs) (λ c. omega arith) (λ c. (refl, omega arith)) (λ c κs. search needs)
-    (λ c. search needs) (λ c. search scan-hit) (λ c. search needs) (λ c. search scan-stop) (λ c. search needs)
-    (λ c. omega arith) (λ c. search needs) (λ c. search needs) (λ c. (search scan-pass, omega arith))
-    (λ c. search scan-out))
+    (λ c. search scan-hit) (λ c. omega arith) (λ c. search needs) (λ c. search needs)
+    (λ c. (search scan-on, omega arith)) (λ c. search scan-out))

@@ -8,5 +8,5 @@ pub seek-spec : {M : Type 1} → statement M
 seek-spec =
     tie.close
     (tie.spec
-    (λ c κs. search needs) (λ c. search (sought-wrong, not-true)) (λ c κs. search needs) (λ c κs. search needs)
+    (λ c κs. search needs) (λ c. search (sought-wrong, not-true)) (λ c κs. search needs)
     (λ c. search (sought-right, not-false)))

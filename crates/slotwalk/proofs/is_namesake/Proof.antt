@@ -1,6 +1,6 @@
 use borrow.Author.Needs.{needs}
 use borrow.Author.Tests.{not-true, not-false}
-use Rattle.slotwalk.proofs.Laws.{if-dead, if-live}
+use Rattle.laws.specs.Slots.{named-dead, named-live}
 use Rattle.slotwalk.proofs.is_namesake.Statement.{statement}
 use Rattle.slotwalk.proofs.is_namesake.Tie as tie
 
@@ -8,4 +8,4 @@ pub is-namesake-spec : {M : Type 1} → statement M
 is-namesake-spec =
     tie.close
     (tie.spec
-    (λ c κs. search needs) (λ c. search (if-dead, not-true)) (λ c κs. search needs) (λ c. search (if-live, not-false)))
+    (λ c κs. search needs) (λ c. search (named-dead, not-true)) (λ c κs. search needs) (λ c. search (named-live, not-false)))
