@@ -44,6 +44,7 @@ quietly() {
 # get_packages PACKAGE..: Debian's packages, after one update of the lists
 get_packages() {
     command -v apt-get >/dev/null || die "please install what Debian calls: $*"
+    [ "$(id -u)" = 0 ] || command -v sudo >/dev/null || die "not root, and there is no sudo: please install Debian's $*"
     say "installing Debian's $*"
     if [ -z "$updated" ]; then
         quietly as_root apt-get -qq update

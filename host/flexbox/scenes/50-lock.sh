@@ -7,6 +7,16 @@ put_late() {
     echo $status >"status$1"
 }
 
+# late_waits: until put 9 says that it waits
+late_waits() {
+    local tries
+    for ((tries = 0; tries < 600; tries++)); do
+        ! grep -qs "waiting up to 60 s" err9 || return 0
+        sleep 0.05
+    done
+    fail "put 9 does not say that it waits: $(cat err9)"
+}
+
 # ---- of eight that put at once, all eight files are there
 fresh
 for i in 1 2 3 4 5 6 7 8; do
@@ -36,7 +46,7 @@ if command -v flock >/dev/null; then
     cp disk other
     does delete other NORTH.TXT
     put_late 9 LATE.TXT disk &
-    until grep -qs "waiting up to 60 s" err9; do sleep 0.05; done
+    late_waits
     mv other disk
     flock -u 9
     wait
@@ -52,7 +62,7 @@ if command -v flock >/dev/null; then
     cp disk other
     rm err9
     put_late 9 LATE.TXT disk &
-    until grep -qs "waiting up to 60 s" err9; do sleep 0.05; done
+    late_waits
     mv other disk
     wait
     [ "$(cat status9)" = 0 ] || fail "the late put: $(cat err9)"
@@ -65,7 +75,7 @@ if command -v flock >/dev/null; then
     flock 9
     rm err9
     put_late 9 LATE.TXT disk &
-    until grep -qs "waiting up to 60 s" err9; do sleep 0.05; done
+    late_waits
     chmod 444 disk
     flock -u 9
     wait
@@ -80,7 +90,7 @@ if command -v flock >/dev/null; then
     flock 9
     rm err9
     put_late 9 LATE.TXT link &
-    until grep -qs "waiting up to 60 s" err9; do sleep 0.05; done
+    late_waits
     ln -sfn other link
     flock -u 9
     wait
