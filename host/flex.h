@@ -28,8 +28,8 @@ extern "C" {
 #endif
 
 /* The version of this header: 10000 * major + 100 * minor + patch, and as text. docs/HOST.md says what each part means. */
-#define FLEX_VERSION 200
-#define FLEX_VERSION_TEXT "0.2.0"
+#define FLEX_VERSION 300
+#define FLEX_VERSION_TEXT "0.3.0"
 
 /* The table: eight control blocks of 320 bytes. All zero means that all are closed. */
 #define FLEX_BLOCKS 8
@@ -89,7 +89,7 @@ extern "C" {
 #define FLEX_OUTPUT_LENGTH 40    /* a lent output has the wrong length */
 #define FLEX_CENSUS_SHAPE 41     /* not the image of a diskette */
 #define FLEX_CENSUS_DIRECTORY 42 /* directory not right */
-#define FLEX_CENSUS_NAMES 43     /* a live slot behind a never-used one, or two files of one name */
+#define FLEX_CENSUS_NAMES 43     /* two files of one name */
 #define FLEX_CENSUS_FREE 44      /* free chain not right */
 #define FLEX_CENSUS_FILE 45      /* a file's chain not right */
 #define FLEX_CENSUS_SECTORS 46   /* a data sector in no chain, or in two */

@@ -311,19 +311,13 @@ impl Scene<'_> {
         Ok(())
     }
 
-    /// A slot that a search gets to: a live one, or one invented where no never-used slot stands before it.
+    /// A slot that a search finds: a live one, or one invented in one of the first four places.
     fn findable_slot(&mut self) -> usize {
         let live = self.live_slots();
         if !live.is_empty() && self.random.chance(40) {
             return self.random.one_of(&live);
         }
-        let first = 4 * 256 + 16;
-        let slot = first + 24 * self.random.below(4);
-        for before in (first..slot).step_by(24) {
-            if self.pair.image()[before] == 0 {
-                self.pair.poke_image(before, &[255]);
-            }
-        }
+        let slot = 4 * 256 + 16 + 24 * self.random.below(4);
         self.invent_slot(slot);
         let name = Scene::numbered_name(self.random.below(1000));
         if self.random.chance(50) {

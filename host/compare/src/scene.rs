@@ -102,10 +102,14 @@ impl<'a> Scene<'a> {
         (sector - 1) * 256 + 16 + 24 * self.random.below(10)
     }
 
-    /// The live slots of track 0.
+    /// The slots of the directory as it was made.
+    pub fn slots(&self) -> Vec<usize> {
+        let sectors = self.directory.iter();
+        sectors.flat_map(|&sector| (0..10).map(move |i| (sector - 1) * 256 + 16 + 24 * i)).collect()
+    }
+
     pub fn live_slots(&self) -> Vec<usize> {
-        let slots = self.directory.iter().flat_map(|&sector| (0..10).map(move |i| (sector - 1) * 256 + 16 + 24 * i));
-        slots.filter(|&slot| (1..128).contains(&self.pair.image()[slot])).collect()
+        self.slots().into_iter().filter(|&slot| (1..128).contains(&self.pair.image()[slot])).collect()
     }
 
     pub fn place(slot: usize) -> [u8; 3] {

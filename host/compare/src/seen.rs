@@ -33,6 +33,9 @@ pub struct Seen {
     named: Option<Slot>,
     /// The new name equals the name.
     own_name: bool,
+    /// A search comes to a never-used slot before a live one of the block's name; of its new name.
+    behind_hole: bool,
+    new_behind_hole: bool,
     /// The first byte of each slot of track 0, by its place.
     firsts: Vec<([u8; 3], u8)>,
     image_len: usize,
@@ -92,8 +95,24 @@ impl Shape {
 
     /// Where the slots of track 0 begin, linked or not.
     fn slots(&self) -> impl Iterator<Item = usize> {
-        (4..self.per as usize).flat_map(|sector| (0..10).map(move |i| sector * 256 + 16 + 24 * i))
+        (4..self.per as usize).flat_map(slots_of)
     }
+
+    /// Where they begin in the order in which a search comes to them: by links from 0,5 on, as far as these are right.
+    fn in_order(&self, image: &[u8]) -> Vec<usize> {
+        let mut sectors = vec![4];
+        while sectors.len() < self.per as usize - 4 {
+            match address(image, sectors[sectors.len() - 1] * 256) {
+                (0, sector) if (5..=self.per).contains(&sector) => sectors.push(sector as usize - 1),
+                _ => break,
+            }
+        }
+        sectors.into_iter().flat_map(slots_of).collect()
+    }
+}
+
+fn slots_of(sector: usize) -> impl Iterator<Item = usize> {
+    (0..10).map(move |i| sector * 256 + 16 + 24 * i)
 }
 
 fn place(slot: usize) -> [u8; 3] {
@@ -130,6 +149,8 @@ impl Seen {
             link_of_first: shape.filter(|_| is_data).map_or(NONE, |shape| address(image, shape.offset(first))),
             named: shape.filter(|_| block[FUNCTION] >= 12).and_then(|shape| named(image, shape, &block[NAME..][..11])),
             own_name: block[NAME..][..11] == block[NEW_NAME..][..11],
+            behind_hole: shape.map_or(false, |shape| behind_hole(image, shape, &block[NAME..][..11])),
+            new_behind_hole: shape.map_or(false, |shape| behind_hole(image, shape, &block[NEW_NAME..][..11])),
             firsts: shape
                 .filter(|_| block[FUNCTION] == 2)
                 .map_or(Vec::new(), |shape| shape.slots().map(|slot| (place(slot), image[slot])).collect()),
@@ -198,6 +219,12 @@ fn named(image: &[u8], shape: Shape, name: &[u8]) -> Option<Slot> {
         end: address(image, slot + 15),
         size: word(image, slot + 17),
     })
+}
+
+/// Does a search come to a never-used slot before a live one of this name?
+fn behind_hole(image: &[u8], shape: Shape, name: &[u8]) -> bool {
+    let mut behind = shape.in_order(image).into_iter().skip_while(|&slot| image[slot] != 0);
+    (1..128).contains(&name[0]) && behind.any(|slot| image[slot..slot + 11] == *name)
 }
 
 type Met = fn(&After) -> bool;
@@ -289,6 +316,10 @@ pub const CALL_SITUATIONS: &[(&str, Met)] = &[
     ("open read: another block reads", |a| a.before.code == 1 && a.answer == 0 && a.others.contains(&1)),
     ("open read: a closed block has the place", |a| a.before.code == 1 && a.answer == 0 && a.others.contains(&0)),
     ("open read: a directory block has the place", |a| a.before.code == 1 && a.answer == 0 && a.others.contains(&16)),
+    ("open read: a name behind a never-used slot", |a| a.before.code == 1 && a.answer == 0 && a.before.behind_hole),
+    ("open write: 3 for a name behind a never-used slot", |a| {
+        a.before.code == 2 && a.answer == 3 && a.before.behind_hole
+    }),
     ("open read: from a directory block", |a| a.before.is(1, 16) && a.answer == 0),
     ("open write: from a directory block", |a| a.before.is(2, 16) && a.answer == 0),
     ("open write: a deleted slot", |a| {
@@ -347,6 +378,7 @@ pub const CALL_SITUATIONS: &[(&str, Met)] = &[
     ("delete: size 0 with addresses that are no data sectors", |a| {
         a.answer == 0 && a.before.deletes(|slot| slot.size == 0 && slot.start != NONE && !a.before.is_data(slot.start))
     }),
+    ("delete: of a name behind a never-used slot", |a| a.before.code == 12 && a.answer == 0 && a.before.behind_hole),
     ("delete: behind a free chain", |a| a.answer == 0 && a.before.count > 0 && a.before.deletes(|slot| slot.size > 0)),
     ("delete: behind an empty free chain", |a| {
         a.answer == 0 && a.before.count == 0 && a.before.deletes(|slot| slot.size > 0)
@@ -394,6 +426,10 @@ pub const CALL_SITUATIONS: &[(&str, Met)] = &[
     ("rename: delete protection does not matter", |a| {
         a.answer == 0 && a.before.renames(|slot| slot.attributes & 64 != 0)
     }),
+    ("rename: of a name behind a never-used slot", |a| a.before.code == 13 && a.answer == 0 && a.before.behind_hole),
+    ("rename: 3 for a new name behind a never-used slot", |a| {
+        a.before.code == 13 && a.answer == 3 && a.before.new_behind_hole && !a.before.own_name
+    }),
     ("rename: in use by a reader", |a| a.answer == 2 && a.before.code == 13 && a.others == [1]),
     ("rename: in use by a writer", |a| a.answer == 2 && a.before.code == 13 && a.others == [2]),
     ("rename: a closed block has the place", |a| a.answer == 0 && a.before.renames(|_| true) && a.others.contains(&0)),
@@ -401,7 +437,7 @@ pub const CALL_SITUATIONS: &[(&str, Met)] = &[
 
 /// Looked at before a census.
 pub struct Surveyed {
-    /// A never-used slot of track 0 stands before a live one.
+    /// A search comes to a never-used slot before a live one.
     hole: bool,
     /// Two live slots of track 0 have equal names.
     twins: bool,
@@ -418,11 +454,14 @@ impl Surveyed {
         let live: Vec<usize> = slots.iter().copied().filter(|&slot| (1..128).contains(&image[slot])).collect();
         let chain =
             |first: usize, last: usize, count: usize| (address(image, first), address(image, last), word(image, count));
-        let last_live = live.last().copied().unwrap_or(0);
         let mut names: Vec<&[u8]> = live.iter().map(|&slot| &image[slot..slot + 11]).collect();
         names.sort_unstable();
         Some(Surveyed {
-            hole: slots.iter().any(|&slot| image[slot] == 0 && slot < last_live),
+            hole: shape
+                .in_order(image)
+                .into_iter()
+                .skip_while(|&slot| image[slot] != 0)
+                .any(|slot| (1..128).contains(&image[slot])),
             twins: names.windows(2).any(|pair| pair[0] == pair[1]),
             free: chain(541, 543, 545),
             files: live.iter().map(|&slot| chain(slot + 13, slot + 15, slot + 17)).collect(),
@@ -443,8 +482,9 @@ pub const CENSUS_SITUATIONS: &[(&str, MetByCensus)] = &[
     ("census: accepted with files and free sectors", |s, answer| answer == 0 && !s.files.is_empty() && s.free.2 > 0),
     ("census: accepted with no free sector", |s, answer| answer == 0 && s.free.2 == 0),
     ("census: accepted with a file of no sector", |s, answer| answer == 0 && s.files.iter().any(|file| file.2 == 0)),
-    ("census: live slot behind a never-used one", |s, answer| answer == 43 && s.hole && !s.twins),
+    ("census: accepted with a live slot behind a never-used one", |s, answer| answer == 0 && s.hole),
     ("census: two equal names", |s, answer| answer == 43 && s.twins && !s.hole),
+    ("census: two equal names and a live slot behind a never-used one", |s, answer| answer == 43 && s.twins && s.hole),
     ("census: free count over M·S", |s, answer| answer == 44 && s.free.2 as u32 > s.data_sectors),
     ("census: free count 0 with an address", |s, answer| answer == 44 && s.free.2 == 0),
     ("census: free chain wrong inside", |s, answer| answer == 44 && s.free.2 > 1 && s.free.2 as u32 <= s.data_sectors),

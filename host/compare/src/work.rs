@@ -16,7 +16,7 @@ const PAST: [usize; 6] = [320, 65536, 1 << 32, (1 << 32) + 4, usize::MAX, usize:
 impl Scene<'_> {
     /// One thing that a host would do.
     pub fn work(&mut self) -> Checked<()> {
-        match self.random.below(33) {
+        match self.random.below(34) {
             0..=5 => self.write_file(),
             6..=8 => self.write_on(),
             9..=12 => self.read_file(),
@@ -31,6 +31,7 @@ impl Scene<'_> {
             28 => self.fill(),
             29 => self.fiddle(),
             30..=31 => self.any_function(),
+            32 => self.leave_holes(),
             _ => self.wrong_lengths(),
         }
     }
@@ -48,6 +49,16 @@ impl Scene<'_> {
         }
         if self.random.chance(70) {
             self.ask(fcb, CLOSE)?;
+        }
+        Ok(())
+    }
+
+    /// Deleted slots become never-used ones: so another maker's formatter leaves them between live ones.
+    fn leave_holes(&mut self) -> Checked<()> {
+        for slot in self.slots() {
+            if self.pair.image()[slot] >= 128 && self.random.chance(50) {
+                self.pair.poke_image(slot, &[0; 24]);
+            }
         }
         Ok(())
     }

@@ -39,6 +39,27 @@ does get disk BYTES.TXT
 head -c 256 out | cmp - bytes
 [ "$(wc -c <out)" = 504 ] || fail "256 bytes are not two sectors"
 
+# ---- slots with holes: a file behind a slot that was never used is found, and the next new file takes that slot
+fresh
+does put disk FIRST.TXT <lines
+does delete disk NORTH.TXT
+patch "$(slot 2)" 0
+does check disk
+does get disk SOUTH.TXT
+cp out south
+refuses 1 "DISK ERROR #003" put disk SOUTH.TXT <lines
+refuses 1 "DISK ERROR #003" rename disk POWER.TXT SOUTH.TXT
+does rename disk SOUTH.TXT WEST.TXT
+does put disk NIGHT.TXT <lines
+does list disk
+grep -qE '^ *1  FIRST.TXT' out || fail "not in slot 1: $(cat out)"
+grep -qE '^ *2  NIGHT.TXT' out || fail "the slot that was never used was not taken: $(cat out)"
+grep -qE '^ *3  WEST.TXT' out || fail "not in slot 3: $(cat out)"
+does get disk WEST.TXT
+cmp out south
+does delete disk WEST.TXT
+does check disk
+
 # ---- refusals of the service
 fresh
 refuses 1 "DISK ERROR #003" put disk NORTH.TXT <lines

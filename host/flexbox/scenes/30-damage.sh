@@ -31,13 +31,6 @@ ends 1 "" check disk
 shows "44 the free chain: "
 shows "46 5 sectors (1,3; 1,6; 1,8; 2,2; 2,4) are held by the free chain and by NORTH.TXT (slot 2, at 0,5 byte 40)"
 
-# ---- a hole in the directory: a second file of one name would be made behind it
-fresh
-patch "$(slot 2)" 0
-unchanged 43
-ends 1 "" check disk
-shows "43 SOUTH.TXT (slot 3, at 0,5 byte 64): live behind slot 2, which was never used"
-
 # ---- two files of one name
 fresh
 patch "$(slot 3)" 78 79 82 84 72

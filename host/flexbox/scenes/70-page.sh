@@ -46,7 +46,7 @@ tells 42 "directory not right" "directory: its sector 0,5 links to 0,4, which is
 shows "It can't be listed."
 fresh
 patch "$(slot 3)" 78 79 82 84 72
-tells 43 "live slot behind a never-used one, or two files of one name" "NORTH.TXT .* and slot 3 have one name" 0-5
+tells 43 "two files of one name" "NORTH.TXT .* and slot 3 have one name" 0-5
 fresh
 patch 543 1 1
 tells 44 "free chain not right" "the free chain: sector 19 of 19 is at 1,2, but its stated end is 1,1" 1-2

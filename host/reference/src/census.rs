@@ -32,7 +32,7 @@ pub fn census(image: &[u8], sectors: &mut [u8], owners: &mut [u8]) -> u32 {
 /// Each data sector's number and its owner, "free chain first, then live slots in order", or the refusal.
 fn holdings(image: &[u8], shape: Shape) -> Result<Vec<(u16, u16)>, u32> {
     let slots = directory::slots(image, shape).ok_or(42u32)?;
-    if live_after_never_used(image, &slots) || has_equal_names(image, &slots) {
+    if has_equal_names(image, &slots) {
         return Err(43);
     }
     let mut held = Vec::new();
@@ -51,15 +51,7 @@ fn holdings(image: &[u8], shape: Shape) -> Result<Vec<(u16, u16)>, u32> {
     }
 }
 
-/// "43 a live slot after a never-used one .."
-fn live_after_never_used(image: &[u8], slots: &[usize]) -> bool {
-    slots
-        .iter()
-        .skip_while(|&&slot| !directory::is_never_used(image, slot))
-        .any(|&slot| directory::is_live(image, slot))
-}
-
-/// ".. or two live slots with equal eleven bytes"
+/// "43 .. two live slots with equal eleven bytes"; 02, ticket 1: "43 loses its first half"
 fn has_equal_names(image: &[u8], slots: &[usize]) -> bool {
     let mut names: Vec<&[u8]> =
         slots.iter().filter(|&&slot| directory::is_live(image, slot)).map(|&slot| &image[slot..slot + 11]).collect();

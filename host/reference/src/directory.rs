@@ -44,28 +44,16 @@ pub fn slots(image: &[u8], shape: Shape) -> Option<Vec<usize>> {
 }
 
 /// "First byte 0: never used; 128 or more: deleted; otherwise live."
-pub fn is_never_used(image: &[u8], slot: usize) -> bool {
-    image[slot] == 0
-}
-
-pub fn is_deleted(image: &[u8], slot: usize) -> bool {
-    image[slot] >= 128
-}
-
 pub fn is_live(image: &[u8], slot: usize) -> bool {
-    !is_never_used(image, slot) && !is_deleted(image, slot)
+    (1..128).contains(&image[slot])
 }
 
-/// "A name search goes in order and stops at the first never-used slot."
+/// 02, ticket 1: "The name search is to go to the end"
 pub fn find(image: &[u8], slots: &[usize], name: &[u8]) -> Option<usize> {
-    slots
-        .iter()
-        .copied()
-        .take_while(|&slot| !is_never_used(image, slot))
-        .find(|&slot| is_live(image, slot) && image[slot..slot + 11] == *name)
+    slots.iter().copied().find(|&slot| is_live(image, slot) && image[slot..slot + 11] == *name)
 }
 
-/// "the first deleted or never-used slot in order"
+/// "The first deleted or never-used slot is still the one reused."
 pub fn vacant(image: &[u8], slots: &[usize]) -> Option<usize> {
     slots.iter().copied().find(|&slot| !is_live(image, slot))
 }

@@ -46,7 +46,7 @@ pub enum Refusal {
     CensusShape,
     /// 42: the census found a directory that is not right.
     CensusDirectory,
-    /// 43: the census found a live slot behind a never-used one, or two files of one name.
+    /// 43: the census found two files of one name.
     CensusNames,
     /// 44: the census found a free chain that is not right.
     CensusFree,
@@ -79,7 +79,7 @@ const ALL: [(u8, Refusal, &str); 23] = [
     (40, OutputLength, "output has the wrong length"),
     (41, CensusShape, "not the image of a diskette"),
     (42, CensusDirectory, "directory not right"),
-    (43, CensusNames, "live slot behind a never-used one, or two files of one name"),
+    (43, CensusNames, "two files of one name"),
     (44, CensusFree, "free chain not right"),
     (45, CensusFile, "chain of a file not right"),
     (46, CensusSectors, "a sector is in no chain, or in two"),

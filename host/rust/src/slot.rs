@@ -36,7 +36,7 @@ impl fmt::Display for Place {
 /// What a slot holds, by its first byte.
 #[derive(Clone, Debug, PartialEq, Eq)]
 pub enum State {
-    /// 0: a search for a name ends here.
+    /// 0.
     NeverUsed,
     /// 128 or more.
     Deleted,

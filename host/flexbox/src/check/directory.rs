@@ -2,7 +2,7 @@
 
 use super::sectors::file;
 use super::Finding;
-use flex::{Address, Shape, Slot, State};
+use flex::{Address, Shape, Slot};
 
 /// The directory's sectors as far as its links are right, and what is not right about them.
 pub fn walk(image: &[u8], shape: Shape) -> (Vec<Address>, Vec<Finding>) {
@@ -29,9 +29,9 @@ fn wrong(shape: Shape, before: &[Address], next: Address) -> Option<String> {
     before.contains(&next).then(|| "back to a sector before it".to_string())
 }
 
-/// Live slots that a search does not reach, and files of one name.
+/// Files of one name.
 pub fn names(slots: &[Slot]) -> Vec<Finding> {
-    let mut findings = behind_a_never_used_one(slots);
+    let mut findings = vec![];
     for (i, slot) in slots.iter().enumerate() {
         let twin = |earlier: &&Slot| matches!((earlier.entry(), slot.entry()), (Some(a), Some(b)) if a.name == b.name);
         if let Some(earlier) = slots[..i].iter().find(twin) {
@@ -40,19 +40,6 @@ pub fn names(slots: &[Slot]) -> Vec<Finding> {
         }
     }
     findings
-}
-
-fn behind_a_never_used_one(slots: &[Slot]) -> Vec<Finding> {
-    let hole = match slots.iter().position(|slot| slot.state == State::NeverUsed) {
-        Some(hole) => hole,
-        None => return vec![],
-    };
-    let live = slots[hole..].iter().filter(|slot| slot.entry().is_some());
-    live.map(|slot| {
-        let text = format!("{}: live behind slot {}, which was never used: no search reaches it", file(slot), hole + 1);
-        finding(vec![slot], text)
-    })
-    .collect()
 }
 
 fn finding(slots: Vec<&Slot>, text: String) -> Finding {

@@ -97,8 +97,7 @@ fn a_finding_says_where() {
     let twins = said(&[(1024 + 40, b"A")]);
     assert_eq!(twins, ["A.TXT (slot 1, at 0,5 byte 16) and slot 2 have one name"]);
     let hole = said(&[(1024 + 16, &[0])]);
-    assert_eq!(hole[0], format!("{}: live behind slot 1, which was never used: no search reaches it", b));
-    assert_eq!(hole[1], "2 sectors (1,1 to 1,2) are in no chain");
+    assert_eq!(hole, ["2 sectors (1,1 to 1,2) are in no chain"]);
     let loose = said(&[(1024, &[0, 5])]);
     assert_eq!(loose, ["directory: its sector 0,5 links to 0,5, back to a sector before it"]);
     let free = said(&[(541, &[1, 3]), (546, &[1])]);

@@ -118,7 +118,7 @@ fn verdict_42_the_directory() {
 
 #[test]
 fn verdict_43_names() {
-    let twins = damaged("43, live slot behind a never-used one, or two files of one name", &[(SLOT_B, b"A")]);
+    let twins = damaged("43, two files of one name", &[(SLOT_B, b"A")]);
     assert_eq!(rules(&twins), "42 kept, 43 broken, 44 kept, 45 kept, 46 kept");
     let text = "A.TXT (slot 1, at 0,5 byte 16) and slot 2 have one name";
     assert_eq!(said(&twins), [format!("<a href=\"#c-0-5\">{}</a>", text)]);

@@ -11,7 +11,7 @@ use std::fmt::Write;
 /// The rules of the census in words, by its numbers.
 const RULES: [(u8, &str); 5] = [
     (42, "The directory's links lead through its sectors on track 0 to an end"),
-    (43, "No two files have one name, and every file can be found"),
+    (43, "No two files have one name"),
     (44, "The free chain has as many sectors as it states, to its stated end"),
     (45, "Each file's chain has as many sectors as its slot states, to its stated end"),
     (46, "Each data sector is free or in one file, and never in two"),
