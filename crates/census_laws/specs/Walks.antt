@@ -14,7 +14,7 @@ use Rattle.rules.specs.Census.{runsOut, chainRight, numbersFrom, fileRight, fil
 use Rattle.laws.specs.Tests.{clash, never, both}
 use Rattle.laws.specs.Bytes.{over-none, over-append, length-over}
 use Rattle.laws.specs.Surveys.{chain-right, length-numbers}
-use Rattle.census_laws.specs.Turns.{one-left, none-left}
+use Rattle.laws.specs.Visits.{one-left, none-left}
 use Rattle.census_laws.specs.Stored.{over-cons}
 use Rattle.census_laws.specs.declared.Listing.{Listing}
 use Rattle.census_laws.specs.declared.Listing.the-variants.{Upto, Wrong}

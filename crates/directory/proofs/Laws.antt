@@ -9,14 +9,14 @@ use lib.Dec.{leb}
 use borrow.Author.Tests.{le-leb, lt-leb, lt-ltb, le-ltb, eq-eqb, ne-eqb}
 use Rattle.rules.specs.Bytes.{within, part, same}
 use Rattle.rules.specs.Image.{trackOf, sectorOf, index, linkOf}
-use Rattle.rules.specs.Directory.{isDirectory, stepTo, nextOf, onNext, mostOfDirectory, ends, directoryRight, sectorsFrom, directory, slotsAt, firstSlotOf, slotsOf, slots, neverUsed, deleted, live, scan, named, vacant, find, vacancy, member, isDisplacement, placed, slotBehind}
+use Rattle.rules.specs.Directory.{isDirectory, stepTo, nextOf, onNext, mostOfDirectory, ends, directoryRight, sectorsFrom, directory, slots, neverUsed, deleted, live, scan, named, vacant, find, vacancy, member, isDisplacement, placed, slotBehind}
 use Rattle.rules.specs.declared.Next.{Next}
 use Rattle.rules.specs.declared.Next.the-variants.{End, To, Astray}
 use Rattle.rules.specs.declared.Lookup.{Lookup}
 use Rattle.rules.specs.declared.Lookup.the-variants.{At, Missing, Broken}
 use Rattle.laws.specs.Bytes.{same-no, same-on}
-use Rattle.laws.specs.Walk.{ends-more, ends-none, sectors-more, sectors-none, slots-more, slots-none}
-use Rattle.laws.specs.Slots.{further, scan-append}
+use Rattle.laws.specs.Walk.{ends-more, ends-none, sectors-more, sectors-none}
+use Rattle.laws.specs.Visits.{visits, mostSlots, firstSlot, pass-none, pass-here, pass-next, pass-last, pass-broken, pass-first}
 use Rattle.directory.specs.Sought.{looked, sought}
 
 -- ---- links
@@ -102,54 +102,33 @@ module _ (img name : List ℕ) (slot : ℕ) {free : Bool} where
   unfolding looked
   looked-name q g = rw g q
 
--- ---- the scan of a sector
+-- ---- the scan
 
-module _ (wanted : ℕ → Bool) (o n : ℕ) {w : Lookup} {a : Bool} (v : w ≡ scan wanted (slotsAt o n)) (h : 0 < n) (e : a ≡ wanted o) where
-  pub scan-hit : a ≡ true → At o ≡ w
+module _ (wanted : ℕ → Bool) (img : List ℕ) (S n o : ℕ) {w : Lookup} (v : w ≡ scan wanted (visits img S n o)) where
+  pub scan-none : n ≤ 0 → Missing ≡ w
   unfolding scan
-  scan-hit k = rw (v, slots-more o n h, ← e, k) refl
+  scan-none h = pass-none (scan wanted) img S n o v h
 
-  pub scan-on : a ≡ false → w ≡ scan wanted (slotsAt (o + 24) (n - 1))
-  unfolding scan
-  scan-on k = rw (v, slots-more o n h, ← e, k) refl
+  module _ {a : Bool} (h : 0 < n) (q : a ≡ wanted o) where
+    pub scan-here : a ≡ true → At o ≡ w
+    unfolding scan
+    scan-here t = rw (pass-here (scan wanted) img S n o v h, ← q, t) refl
 
-pub scan-out : (wanted : ℕ → Bool) (o n : ℕ) {w : Lookup} → w ≡ scan wanted (slotsAt o n) → n ≤ 0 → Missing ≡ w
-unfolding scan
-scan-out wanted o n v h = rw (v, slots-none o n h) refl
+    module _ {l : Lookup} (t : a ≡ false) (e : l ≡ slotBehind img S o) where
+      pub scan-next : {p : ℕ} → l ≡ At p → w ≡ scan wanted (visits img S (n - 1) p)
+      unfolding scan
+      scan-next k = rw (pass-next (scan wanted) img S n o v h e k, ← q, t) refl
 
--- ---- the scan of all sectors
+      pub scan-last : l ≡ Missing → Missing ≡ w
+      unfolding scan
+      scan-last k = rw (pass-last (scan wanted) img S n o v h e k, ← q, t) refl
 
-module _ (wanted : ℕ → Bool) (img : List ℕ) (S n k : ℕ) {w a : Lookup} (v : w ≡ scan wanted (slotsOf (sectorsFrom img S n k))) (h : 0 < n)
-    (e : a ≡ scan wanted (slotsAt (firstSlotOf k) 10)) where
-  all-more : w ≡ further a (scan wanted (slotsOf (onNext (nextOf img S k) [] [] (λ j. sectorsFrom img S (n - 1) j))))
-  unfolding slotsOf
-  all-more = rw (v, sectors-more img S n k h, scan-append, ← e) refl
+      pub scan-broken : l ≡ Broken → Missing ≡ w
+      unfolding scan
+      scan-broken k = rw (pass-broken (scan wanted) img S n o v h e k, ← q, t) refl
 
-  pub all-at : {o : ℕ} → a ≡ At o → At o ≡ w
-  all-at d = rw (all-more, d) refl
-
-  pub all-broken : a ≡ Broken → Broken ≡ w
-  all-broken d = rw (all-more, d) refl
-
-  module _ (f : a ≡ Missing) {b : Next} (g : b ≡ nextOf img S k) where
-    pub all-end : b ≡ End → Missing ≡ w
-    unfolding slotsOf scan
-    all-end j = rw (all-more, f, ← g, j) refl
-
-    pub all-astray : b ≡ Astray → Missing ≡ w
-    unfolding slotsOf scan
-    all-astray j = rw (all-more, f, ← g, j) refl
-
-    pub all-to : {x : ℕ} → b ≡ To x → w ≡ scan wanted (slotsOf (sectorsFrom img S (n - 1) x))
-    all-to j = rw (all-more, f, ← g, j) refl
-
-pub all-out : (wanted : ℕ → Bool) (img : List ℕ) (S n k : ℕ) {w : Lookup} → w ≡ scan wanted (slotsOf (sectorsFrom img S n k)) → n ≤ 0 → Missing ≡ w
-unfolding slotsOf scan
-all-out wanted img S n k v h = rw (v, sectors-none img S n k h) refl
-
-pub all-from : (wanted : ℕ → Bool) (img : List ℕ) (S : ℕ) {n : ℕ} → n ≡ mostOfDirectory S → scan wanted (slots img S) ≡ scan wanted (slotsOf (sectorsFrom img S n 4))
-unfolding directory
-all-from wanted img S e = rw e refl
+pub scan-first : (wanted : ℕ → Bool) (img : List ℕ) (S n : ℕ) → n ≡ mostSlots S → scan wanted (slots img S) ≡ scan wanted (visits img S n firstSlot)
+scan-first wanted img S n h = pass-first (scan wanted) img S n h
 
 -- ---- search and vacancy
 

@@ -2,14 +2,12 @@
 use mathlib.Core.List.{List}
 use Prim.Native.Nat.{ℕ}
 use Rattle.rules.specs.Bytes.{part, over, same}
-use Rattle.rules.specs.Directory.{nextOf, mostOfDirectory, directoryRight, live, find, vacancy, placed, placeOf, slotBehind}
+use Rattle.rules.specs.Directory.{directoryRight, live, find, vacancy, placed, placeOf, slotBehind}
 use Rattle.laws.specs.Single.{Single, single}
+use Rattle.laws.specs.Visits.{mostSlots}
 
-pub next-of-single : (img : List ℕ) (S k : ℕ) → Single (nextOf img S k)
-next-of-single img S k = single (nextOf img S k)
-
-pub most-of-single : (S : ℕ) → Single (mostOfDirectory S)
-most-of-single S = single (mostOfDirectory S)
+pub most-slots-single : (S : ℕ) → Single (mostSlots S)
+most-slots-single S = single (mostSlots S)
 
 pub directory-right-single : (img : List ℕ) (S : ℕ) → Single (directoryRight img S)
 directory-right-single img S = single (directoryRight img S)

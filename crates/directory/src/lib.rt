@@ -1,9 +1,11 @@
 // The directory: the walk over its sectors, one scan of its slots for a name and for a vacancy, places of slots.
 // A directory sector is its index, a slot where it begins in the image.
 ghost use mathlib.Core.Path.{_≡_};
-ghost use Prim.Native.Nat.{_+_, _*_, _<_};
+ghost use Prim.Native.Nat.{_+_, _*_, _≤_, _<_};
+ghost use lib.ListN.{getD};
 ghost use Rattle.rules.specs.Bytes.{part, over, same};
-ghost use Rattle.rules.specs.Directory.{isDirectory, stepTo, nextOf, mostOfDirectory, directoryRight, directory, slotsAt, firstSlotOf, slots, live, named, scan, find, vacancy, member, isDisplacement, placed, placeOf, slotBehind};
+ghost use Rattle.rules.specs.Directory.{isDirectory, stepTo, nextOf, mostOfDirectory, directoryRight, directory, slots, live, named, scan, find, vacancy, member, isDisplacement, placed, placeOf, slotBehind};
+ghost use Rattle.laws.specs.Visits.{mostSlots};
 ghost use Rattle.directory.specs.Sought.{looked, sought};
 use cells::get;
 use cells::get_in;
@@ -42,20 +44,27 @@ fn step_to(per: u8, a: u16) -> Next
 }
 
 // What the link of the sector k says.
-pub fn next_of(image: &[u8], per: u8, k: u16) -> Next
+fn next_of(image: &[u8], per: u8, k: u16) -> Next
     ensures { λ r. ⌜ r ≡ nextOf (now (image .entry)) per k ⌝ }
 {
     step_to(per, link_of(image, k))
 }
 
 // How many sectors a directory has at most.
-pub fn most_of(per: u8) -> u8
+fn most_of(per: u8) -> u8
     ensures { λ r. ⌜ r ≡ mostOfDirectory per ⌝ }
 {
     if per < 4 {
         return 0;
     }
     per - 4
+}
+
+// How many slots a directory has at most.
+pub fn most_slots(per: u8) -> u16
+    ensures { λ r. ⌜ (r ≡ mostSlots per) × (r ≤ 2510) ⌝ }
+{
+    10 * most_of(per) as u16
 }
 
 // Does the directory end within its sectors?
@@ -76,11 +85,18 @@ pub fn directory_right(image: &[u8], per: u8) -> bool
     false // too long, or it goes round
 }
 
+// The byte that says what a slot is.
+fn first_byte(image: &[u8], slot: u32) -> u8
+    ensures { λ r. ⌜ r ≡ getD (now (image .entry)) slot 0 ⌝ }
+{
+    get(image, slot as usize)
+}
+
 // Is a slot live?
 pub fn is_live(image: &[u8], slot: u32) -> bool
     ensures { λ r. ⌜ r ≡ live (now (image .entry)) slot ⌝ }
 {
-    let b = get(image, slot as usize);
+    let b = first_byte(image, slot);
     if b == 0 {
         return false;
     }
@@ -130,41 +146,22 @@ fn is_sought(free: bool, image: &[u8], table: &[u8], at: usize, slot: u32) -> bo
     is_named(image, slot, table, at)
 }
 
-// The scan of a sector's ten slots.
-fn scan_sector(free: bool, image: &[u8], table: &[u8], at: usize, k: u16) -> Lookup
-    ensures { λ r. ⌜ r ≡ scan (looked free (now (image .entry)) (part (now (table .entry)) at 11)) (slotsAt (firstSlotOf k) 10) ⌝ }
+// The first slot looked for.
+fn scan(free: bool, image: &[u8], per: u8, table: &[u8], at: usize) -> Lookup
+    ensures { λ r. ⌜ r ≡ scan (looked free (now (image .entry)) (part (now (table .entry)) at 11)) (slots (now (image .entry)) per) ⌝ }
 {
-    let mut slot = 256 * k as u32 + 16;
-    let mut left = 10u8;
+    let mut left = most_slots(per);
+    let mut slot = 1040u32;
     while left > 0 {
         let found = is_sought(free, image, table, at, slot);
         if found {
             return Lookup::At(slot);
         }
-        slot += 24;
-        left -= 1;
-    }
-    Lookup::Missing
-}
-
-// The scan of all slots.
-fn scan_all(free: bool, image: &[u8], per: u8, table: &[u8], at: usize) -> Lookup
-    ensures { λ r. ⌜ r ≡ scan (looked free (now (image .entry)) (part (now (table .entry)) at 11)) (slots (now (image .entry)) per) ⌝ }
-{
-    let mut left = most_of(per);
-    let mut k = 4u16;
-    while left > 0 {
-        let found = scan_sector(free, image, table, at, k);
-        match found {
-            Lookup::At(slot) => return Lookup::At(slot),
-            Lookup::Missing => {}
-            Lookup::Broken => return Lookup::Broken, // a sector's scan never answers so
-        }
-        let next = next_of(image, per, k);
+        let next = slot_behind(image, per, slot);
         match next {
-            Next::End => return Lookup::Missing,
-            Next::Astray => return Lookup::Missing,
-            Next::To(j) => k = j,
+            Lookup::At(behind) => slot = behind,
+            Lookup::Missing => return Lookup::Missing,
+            Lookup::Broken => return Lookup::Missing,
         }
         left -= 1;
     }
@@ -179,7 +176,7 @@ fn seek(free: bool, image: &[u8], per: u8, table: &[u8], at: usize) -> Lookup
     if !right {
         return Lookup::Broken;
     }
-    scan_all(free, image, per, table, at)
+    scan(free, image, per, table, at)
 }
 
 // The slot with the name at a place of the table.

@@ -8,6 +8,7 @@ pub mod Small
 pub mod Stores
 pub mod Addresses
 pub mod Slots
+pub mod Visits
 pub mod Fair
 pub mod Facts
 pub mod Effects

@@ -1,7 +1,7 @@
 -- The directory: where its sectors and slots lie, what a scan finds, places and slots.
 use mathlib.Core.Path.{_≡_, refl, sym, ap, _∙_}
 use mathlib.Core.Bool.{Bool, true, false}
-use mathlib.Core.List.{List, [], _∷_, _++_}
+use mathlib.Core.List.{List, [], _∷_}
 use Prim.Native.Nat.{ℕ, zero, suc, _+_, _-_, _*_, _/_, _%_, _≤_, _<_}
 use native.Mathlib.Omega.{arith}
 use native.Mathlib.Decide.{decLt}
@@ -119,22 +119,6 @@ slots-apart S o p s t h = go (slot-number S o s) (slot-number S p t) (decLt (o /
     go (i, a, b) (j, c, d) (no l) = let e : o / 256 ≡ p / 256 = omega arith in let m : i < j = omega arith in omega arith
 
 -- ---- scans
-
--- where the first slots have none, the scan goes on in the others
-abbrev pub further : Lookup → Lookup → Lookup
-further (At o) g = At o
-further Missing g = g
-further Broken g = Broken
-
-pub scan-append : (wanted : ℕ → Bool) (os ps : List ℕ) → scan wanted (os ++ ps) ≡ further (scan wanted os) (scan wanted ps)
-unfolding scan
-scan-append wanted [] ps = refl
-scan-append wanted (o ∷ os) ps = go (wanted o) (scan-append wanted os ps)
-  where
-    go : (w : Bool) → scan wanted (os ++ ps) ≡ further (scan wanted os) (scan wanted ps)
-        → pick w (At o) (scan wanted (os ++ ps)) ≡ further (pick w (At o) (scan wanted os)) (scan wanted ps)
-    go true e = refl
-    go false e = e
 
 -- what is found is one of the slots, and wanted
 pub scan-found : (wanted : ℕ → Bool) (os : List ℕ) (o : ℕ) → scan wanted os ≡ At o → (member o os ≡ true) × (wanted o ≡ true)

@@ -1,10 +1,10 @@
--- The directory's walk, a turn at a time: what one more sector, or one more slot, makes of it.
+-- The directory's walk, a turn at a time: what one more sector makes of it.
 use mathlib.Core.Path.{_≡_, refl, ap}
 use mathlib.Core.Bool.{true, false}
 use mathlib.Core.List.{List, [], _∷_}
 use Prim.Native.Nat.{ℕ, zero, suc, _+_, _-_, _*_, _/_, _%_, _≤_, _<_}
 use native.Mathlib.Omega.{arith}
-use Rattle.rules.specs.Directory.{nextOf, onNext, ends, sectorsFrom, slotsAt}
+use Rattle.rules.specs.Directory.{nextOf, onNext, ends, sectorsFrom}
 
 less : (n : ℕ) → n ≡ suc n - 1
 less n = omega arith
@@ -29,17 +29,6 @@ pub sectors-none : (img : List ℕ) (S n k : ℕ) → n ≤ 0 → sectorsFrom im
 unfolding sectorsFrom
 sectors-none img S zero k h = refl
 sectors-none img S (suc n) k h = absurd (omega arith)
-
--- one slot more
-pub slots-more : (at n : ℕ) → 0 < n → slotsAt at n ≡ at ∷ slotsAt (at + 24) (n - 1)
-unfolding slotsAt
-slots-more at zero h = absurd (omega arith)
-slots-more at (suc n) h = ap (λ (m : ℕ). at ∷ slotsAt (at + 24) m) (less n)
-
-pub slots-none : (at n : ℕ) → n ≤ 0 → slotsAt at n ≡ []
-unfolding slotsAt
-slots-none at zero h = refl
-slots-none at (suc n) h = absurd (omega arith)
 
 -- a slot's sector and offset are where it begins
 pub slot-begins : (slot : ℕ) → 256 * (slot / 256) + slot % 256 ≡ slot

@@ -5,7 +5,7 @@ use mathlib.Core.List.{List, [], _∷_}
 use Prim.Native.Nat.{ℕ, _+_, _-_, _*_, _≤_, _<_}
 use native.Mathlib.Omega.{arith}
 use lib.ListN.{length, replicate, length-replicate}
-use Rattle.rules.specs.Bytes.{pick, part, over, same}
+use Rattle.rules.specs.Bytes.{pick, part, over}
 use Rattle.rules.specs.Directory.{live, named, slotBehind, slots, sizeAt}
 use Rattle.rules.specs.Census.{namesake, twins, fileOwners, filesOwners}
 use Rattle.laws.specs.Bytes.{over-none, over-append}
@@ -13,14 +13,9 @@ use Rattle.rules.specs.declared.Lookup.{Lookup}
 use Rattle.rules.specs.declared.Lookup.the-variants.{At, Missing, Broken}
 use Rattle.census_laws.specs.declared.Listing.{Listing}
 use Rattle.census_laws.specs.declared.Listing.the-variants.{Upto, Wrong}
-use Rattle.census_laws.specs.Turns.{few-data}
+use Rattle.census_laws.specs.Limits.{few-data}
 use Rattle.census_laws.specs.Walks.{Laid, laid, file, files, file-kept, file-place}
-use Rattle.census_laws.specs.Visits.{visits, mostSlots, firstSlot, slots-visits, pass-none, pass-here, pass-next, pass-last, pass-broken}
-
--- the first turn of a pass over all slots
-module _ {A : Type 0} (pass : List ℕ → A) (img : List ℕ) (S n : ℕ) (h : n ≡ mostSlots S) where
-  first : pass (slots img S) ≡ pass (visits img S n firstSlot)
-  first = rw (h, slots-visits img S) refl
+use Rattle.laws.specs.Visits.{visits, mostSlots, firstSlot, pass-first, pass-none, pass-here, pass-next, pass-last, pass-broken}
 
 alone : (b : Bool) → pick (pick b false false) true false ≡ false
 alone true = refl
@@ -59,7 +54,7 @@ module _ {A : Type 0} (img : List ℕ) (o : ℕ) (x y : A) {a : Bool} (q : a ≡
   if-live t d = rw (← q, t) d
 
 pub twins-first : (img : List ℕ) (S n : ℕ) → n ≡ mostSlots S → twins img (slots img S) ≡ twins img (visits img S n firstSlot)
-twins-first img S n h = first (twins img) img S n h
+twins-first img S n h = pass-first (twins img) img S n h
 
 module _ (img : List ℕ) (S n o : ℕ) {w : Bool} (v : w ≡ twins img (visits img S n o)) where
   pub twins-none : n ≤ 0 → false ≡ w
@@ -88,7 +83,7 @@ module _ (img : List ℕ) (S n o : ℕ) {w : Bool} (v : w ≡ twins img (visits 
 
 pub files-first : (img : List ℕ) (M S : ℕ) (out : List ℕ) (at n : ℕ) → n ≡ mostSlots S
     → files img M S (slots img S) out at ≡ files img M S (visits img S n firstSlot) out at
-files-first img M S out at n h = first (λ os. files img M S os out at) img S n h
+files-first img M S out at n h = pass-first (λ os. files img M S os out at) img S n h
 
 module _ (img : List ℕ) (M S n o : ℕ) (out : List ℕ) (at : ℕ) {w : Laid} (v : w ≡ files img M S (visits img S n o) out at) where
   pub files-none : n ≤ 0 → laid (Upto at) out ≡ w
@@ -133,7 +128,7 @@ owners-are img o k = go (live img o)
 
 pub own-first : (img : List ℕ) (S : ℕ) (out : List ℕ) (at n : ℕ) → n ≡ mostSlots S
     → over out at (filesOwners img 1 (slots img S)) ≡ over out at (filesOwners img 1 (visits img S n firstSlot))
-own-first img S out at n h = first (λ os. over out at (filesOwners img 1 os)) img S n h
+own-first img S out at n h = pass-first (λ os. over out at (filesOwners img 1 os)) img S n h
 
 module _ (img : List ℕ) (S n o k : ℕ) (out : List ℕ) (at : ℕ) {w : List ℕ} (v : w ≡ over out at (filesOwners img k (visits img S n o))) where
   pub own-none : n ≤ 0 → out ≡ w

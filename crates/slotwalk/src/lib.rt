@@ -1,28 +1,20 @@
 // Passes over the slots of the directory, one behind the other: names, files' chains, owners. All are total.
 ghost use mathlib.Core.Path.{_≡_};
-ghost use Prim.Native.Nat.{_*_, _≤_};
 ghost use mathlib.Core.Bool.{false};
 ghost use Rattle.rules.specs.Bytes.{pick, part, over};
 ghost use Rattle.rules.specs.Directory.{live, named, slots, sizeAt};
 ghost use Rattle.rules.specs.Census.{namesake, twins, filesOwners};
-ghost use Rattle.census_laws.specs.Visits.{visits, mostSlots};
+ghost use Rattle.laws.specs.Visits.{visits};
 ghost use Rattle.census_laws.specs.Walks.{laid, file, files};
 use cells::get2;
 use census_laws::Listing;
 use chainwalk::chain_at;
 use directory::is_live;
-use directory::most_of;
+use directory::most_slots;
 use directory::same_name;
 use directory::slot_behind;
 use outputs::run;
 use rules::Lookup;
-
-// How many slots a directory has at most.
-fn most_slots(per: u8) -> u16
-    ensures { λ r. ⌜ (r ≡ mostSlots per) × (r ≤ 2510) ⌝ }
-{
-    10 * most_of(per) as u16
-}
 
 // Is a slot live with the name of this one? The census asks that of each pair, and a call of directory's own test for it, in
 // another crate, would cost a tenth of its time.

@@ -1,6 +1,6 @@
 use native.Mathlib.Omega.{arith}
 use borrow.Author.Needs.{needs}
-use Rattle.census_laws.specs.Turns.{few-data}
+use Rattle.census_laws.specs.Limits.{few-data}
 use Rattle.chainwalk.proofs.data_sectors.Statement.{statement}
 use Rattle.chainwalk.proofs.data_sectors.Tie as tie
 

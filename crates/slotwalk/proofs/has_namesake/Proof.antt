@@ -1,7 +1,7 @@
 use mathlib.Core.Path.{_≡_, refl}
 use borrow.Author.Needs.{needs}
 use Rattle.rules.specs.Census.{namesake}
-use Rattle.census_laws.specs.Visits.{visits}
+use Rattle.laws.specs.Visits.{visits}
 use Rattle.slotwalk.proofs.Laws.{namesake-none, namesake-here, namesake-next, namesake-last, namesake-broken}
 use Rattle.slotwalk.proofs.has_namesake.Statement.{statement}
 use Rattle.slotwalk.proofs.has_namesake.Tie as tie

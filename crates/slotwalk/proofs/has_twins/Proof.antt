@@ -2,7 +2,7 @@ use mathlib.Core.Path.{_≡_}
 use borrow.Author.Needs.{needs}
 use Rattle.rules.specs.Directory.{slots}
 use Rattle.rules.specs.Census.{twins}
-use Rattle.census_laws.specs.Visits.{visits}
+use Rattle.laws.specs.Visits.{visits}
 use Rattle.slotwalk.proofs.Laws.{twins-first, twins-none, twins-last, twins-broken, twins-here, twins-next}
 use Rattle.slotwalk.proofs.has_twins.Statement.{statement}
 use Rattle.slotwalk.proofs.has_twins.Tie as tie

@@ -4,7 +4,7 @@ use native.Mathlib.Omega.{arith}
 use lib.ListN.{length}
 use borrow.Author.Needs.{needs}
 use Rattle.rules.specs.Directory.{slots}
-use Rattle.census_laws.specs.Visits.{visits}
+use Rattle.laws.specs.Visits.{visits}
 use Rattle.census_laws.specs.Walks.{files}
 use Rattle.slotwalk.proofs.Laws.{files-first, files-none, files-wrong, files-next, files-last, files-broken, files-place, files-kept}
 use Rattle.slotwalk.proofs.list_files.Statement.{statement}

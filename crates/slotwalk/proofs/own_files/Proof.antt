@@ -6,7 +6,7 @@ use borrow.Author.Needs.{needs}
 use Rattle.rules.specs.Bytes.{over}
 use Rattle.rules.specs.Directory.{slots}
 use Rattle.rules.specs.Census.{filesOwners}
-use Rattle.census_laws.specs.Visits.{visits}
+use Rattle.laws.specs.Visits.{visits}
 use Rattle.census_laws.specs.Stored.{over-kept}
 use Rattle.slotwalk.proofs.Laws.{own-first, own-none, own-next, own-last, own-broken}
 use Rattle.slotwalk.proofs.own_files.Statement.{statement}

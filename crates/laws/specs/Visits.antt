@@ -5,11 +5,16 @@ use Prim.Native.Nat.{ℕ, zero, suc, _+_, _-_, _*_, _/_, _%_, _≤_, _<_}
 use native.Mathlib.Omega.{arith}
 use borrow.Author.Tests.{lt-ltb, le-ltb}
 use Rattle.rules.specs.Directory.{nextOf, onNext, mostOfDirectory, firstOfDirectory, sectorsFrom, directory, slotsAt, firstSlotOf, slotsOf, slots, slotBehind}
-use Rattle.census_laws.specs.Turns.{one-left, none-left}
 use Rattle.rules.specs.declared.Next.{Next}
 use Rattle.rules.specs.declared.Next.the-variants.{End, To, Astray}
 use Rattle.rules.specs.declared.Lookup.{Lookup}
 use Rattle.rules.specs.declared.Lookup.the-variants.{At, Missing, Broken}
+
+pub one-left : (n : ℕ) → 0 < n → n ≡ suc (n - 1)
+one-left n h = omega arith
+
+pub none-left : (n : ℕ) → n ≤ 0 → n ≡ 0
+none-left n h = omega arith
 
 -- on with the slot, if there is one
 abbrev pub onThere : {A : Type 0} → Lookup → A → (ℕ → A) → A
@@ -73,7 +78,7 @@ sectors-visits img S (suc n) k =
     go Astray ih = refl
 
 -- these are all the slots, in order
-pub slots-visits : (img : List ℕ) (S : ℕ) → slots img S ≡ visits img S (mostSlots S) firstSlot
+slots-visits : (img : List ℕ) (S : ℕ) → slots img S ≡ visits img S (mostSlots S) firstSlot
 unfolding directory
 slots-visits img S = sym (sectors-visits img S (mostOfDirectory S) firstOfDirectory)
 
@@ -104,3 +109,7 @@ module _ {A : Type 0} (pass : List ℕ → A) (img : List ℕ) (S n o : ℕ) {w 
 
     pub pass-broken : l ≡ Broken → w ≡ pass (o ∷ [])
     pass-broken k = rw (v, visits-more img S n o h e, k) refl
+
+-- its first turn, over all slots
+pub pass-first : {A : Type 0} (pass : List ℕ → A) (img : List ℕ) (S n : ℕ) → n ≡ mostSlots S → pass (slots img S) ≡ pass (visits img S n firstSlot)
+pass-first pass img S n h = rw (h, slots-visits img S) refl
