@@ -1,8 +1,9 @@
-// Leaves over byte slices: a byte, a number of two bytes, runs of bytes, read and stored at a place. All are total: past the end
-// a byte reads as 0, and nothing is stored.
+// Leaves over byte slices: a byte, a number of two bytes, runs of bytes, read and stored at a place. All that are public are total:
+// past the end a byte reads as 0, and nothing is stored. A run is passed on as a part of its slice, and its loop has an index of
+// its own.
 ghost use mathlib.Core.Path.{_≡_};
-ghost use Prim.Native.Nat.{_+_};
-ghost use lib.ListN.{getD, length};
+ghost use Prim.Native.Nat.{_+_, _≤_};
+ghost use lib.ListN.{getD, length, take};
 ghost use Rattle.rules.specs.Bytes.{wordAt, part, over, one, two, six, zeros};
 
 // The byte at a place.
@@ -49,36 +50,70 @@ pub fn put(s: &mut [u8], at: usize, v: u8)
     }
 }
 
-// A part of src stored: n bytes from its place `from` on.
-pub fn copy(dst: &mut [u8], at: usize, src: &[u8], from: usize, n: usize)
-    ensures { λ _. ⌜ now (dst .exit) ≡ over (now (dst .entry)) at (part (now (src .entry)) from n) ⌝ }
+// Every byte of dst set to the byte of src with the same index.
+fn overlay(dst: &mut [u8], src: &[u8])
+    requires { ⌜ length (now dst) ≤ length (now src) ⌝ }
+    ensures { λ _. ⌜ now (dst .exit) ≡ take (length (now (dst .entry))) (now (src .entry)) ⌝ }
 {
-    if dst.len() <= at {
-        return;
-    }
+    let n = dst.len();
     let mut i = 0;
     while i < n {
-        if dst.len() - at <= i {
-            return;
-        }
-        dst[at + i] = get_in(src, from, i);
+        dst[i] = src[i];
         i += 1;
     }
 }
 
-// The bytes of src stored.
+// Every byte of dst set to 0.
+fn wipe(dst: &mut [u8])
+    ensures { λ _. ⌜ now (dst .exit) ≡ zeros (length (now (dst .entry))) ⌝ }
+{
+    let n = dst.len();
+    let mut i = 0;
+    while i < n {
+        dst[i] = 0;
+        i += 1;
+    }
+}
+
+// A part of src stored: n bytes from its place `from` on, zeros for those that it does not have.
+pub fn copy(dst: &mut [u8], at: usize, src: &[u8], from: usize, n: usize)
+    ensures { λ _. ⌜ now (dst .exit) ≡ over (now (dst .entry)) at (part (now (src .entry)) from n) ⌝ }
+{
+    if src.len() <= from {
+        clear(dst, at, n);
+        return;
+    }
+    if src.len() - from < n {
+        clear(dst, at, n);
+        store(dst, at, &src[from..]);
+        return;
+    }
+    store(dst, at, &src[from..from + n]);
+}
+
+// The bytes of src stored, as many of them as there is room for.
 pub fn store(dst: &mut [u8], at: usize, src: &[u8])
     ensures { λ _. ⌜ now (dst .exit) ≡ over (now (dst .entry)) at (now (src .entry)) ⌝ }
 {
-    copy(dst, at, src, 0, src.len());
+    if dst.len() <= at {
+        return;
+    }
+    if dst.len() - at < src.len() {
+        overlay(&mut dst[at..], src);
+        return;
+    }
+    overlay(&mut dst[at..at + src.len()], src);
 }
 
 // A number of two bytes stored.
 pub fn put2(dst: &mut [u8], at: usize, v: u16)
     ensures { λ _. ⌜ now (dst .exit) ≡ over (now (dst .entry)) at (two v) ⌝ }
 {
-    let b = [(v / 256 % 256) as u8, (v % 256) as u8];
-    store(dst, at, &b);
+    if dst.len() <= at {
+        return;
+    }
+    put(dst, at, (v / 256 % 256) as u8);
+    put(dst, at + 1, (v % 256) as u8);
 }
 
 // Three numbers of two bytes stored in a row.
@@ -96,10 +131,16 @@ pub fn put6(dst: &mut [u8], at: usize, x: u16, y: u16, z: u16)
     store(dst, at, &b);
 }
 
-// n zeros stored.
+// n zeros stored, as many of them as there is room for.
 pub fn clear(dst: &mut [u8], at: usize, n: usize)
     ensures { λ _. ⌜ now (dst .exit) ≡ over (now (dst .entry)) at (zeros n) ⌝ }
 {
-    let none = [0u8; 1];
-    copy(dst, at, &none, 1, n);
+    if dst.len() <= at {
+        return;
+    }
+    if dst.len() - at < n {
+        wipe(&mut dst[at..]);
+        return;
+    }
+    wipe(&mut dst[at..at + n]);
 }

@@ -1,7 +1,7 @@
 -- Lines written one behind the other, turn by turn; the report of a survey.
 use mathlib.Core.Path.{_≡_, refl, sym, ap, ap₂, _∙_}
-use mathlib.Core.List.{List, [], _∷_, _++_}
-use Prim.Native.Nat.{ℕ, zero, suc, _+_, _≤_, _<_}
+use mathlib.Core.List.{List, [], _++_}
+use Prim.Native.Nat.{ℕ, _+_, _≤_, _<_}
 use native.Mathlib.Numerals.{add-one}
 use native.Mathlib.Omega.{arith}
 use lib.ListN.{length, getD, take, drop, length-append, drop-of-length-le}
@@ -10,7 +10,7 @@ use borrow.Author.Tests.{eq-eqb, ne-eqb}
 use Rattle.rules.specs.Bytes.{over, zeros}
 use Rattle.rules.specs.Text.{line, lines, report}
 use Rattle.rules.specs.Census.{Survey, survey, census}
-use Rattle.laws.specs.Bytes.{over-none, over-append, length-zeros}
+use Rattle.laws.specs.Bytes.{over-none, over-append, length-zeros, take-zeros}
 use Rattle.census_tool.specs.Written.{Texted, texted, written, written-then}
 
 -- n bytes are written from a place on, and these go on behind them
@@ -73,12 +73,6 @@ pub report-census : (out img xs ys xs₁ ys₁ : List ℕ) {a : ℕ} {w : Texted
 report-census out img xs ys xs₁ ys₁ e f = f ∙ ap (λ (s : Survey). written out 0 (report s)) e
 
 -- with the first n of outputs of zeros
-take-zeros : (n m : ℕ) → n ≤ m → take n (zeros m) ≡ zeros n
-unfolding zeros
-take-zeros zero m h = refl
-take-zeros (suc n) zero h = absurd (omega arith)
-take-zeros (suc n) (suc m) h = ap (λ (l : List ℕ). 0 ∷ l) (take-zeros n m (omega arith))
-
 module _ (n : ℕ) (xs : List ℕ) (e : xs ≡ zeros 250) (h : n ≤ 250) where
   first-zeros : take n xs ≡ zeros n
   first-zeros = ap (take n) e ∙ take-zeros n 250 h

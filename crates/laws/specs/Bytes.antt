@@ -4,9 +4,10 @@ use mathlib.Core.Bool.{Bool, true, false}
 use mathlib.Core.List.{List, [], _∷_, _++_}
 use Prim.Native.Nat.{ℕ, zero, suc, _+_, _-_, _*_, _/_, _%_, _≤_, _<_}
 use native.Mathlib.Numerals.{add-one}
+use native.Mathlib.Nat.{suc-add}
 use native.Mathlib.Omega.{arith}
-use lib.ListN.{length, getD, set, take, drop, List·getD-eq-default, length-set, length-replicate, take-append-drop}
-use lib.Seq.{sets, length-sets, getD-set-other, getD-set-same, set-out, ext-getD, drop-cons, take-suc, length-take-le, take-all}
+use lib.ListN.{length, getD, set, take, drop, List·getD-eq-default, length-set, length-replicate}
+use lib.Seq.{sets, length-sets, getD-set-other, getD-set-same, set-out, ext-getD, drop-cons, take-all}
 use borrow.Author.Tests.{eq-eqb, ne-eqb, eqb-true}
 use lib.Dec.{eqb}
 use mathlib.Core.Logic.{_≢_}
@@ -69,6 +70,18 @@ zeros-at zero i = refl
 zeros-at (suc n) zero = refl
 zeros-at (suc n) (suc i) = zeros-at n i
 
+pub take-zeros : (n m : ℕ) → n ≤ m → take n (zeros m) ≡ zeros n
+unfolding zeros
+take-zeros zero m h = refl
+take-zeros (suc n) zero h = absurd (omega arith)
+take-zeros (suc n) (suc m) h = ap (λ (l : List ℕ). 0 ∷ l) (take-zeros n m (omega arith))
+
+pub drop-zeros : (n m : ℕ) → drop n (zeros m) ≡ zeros (m - n)
+unfolding zeros
+drop-zeros zero m = let e : m ≡ m - 0 = omega arith in ap zeros e
+drop-zeros (suc n) zero = let e : 0 ≡ 0 - suc n = omega arith in ap zeros e
+drop-zeros (suc n) (suc m) = let e : m - n ≡ suc m - suc n = omega arith in drop-zeros n m ∙ ap zeros e
+
 pub length-part : (m : List ℕ) (at n : ℕ) → length (part m at n) ≡ n
 unfolding part
 length-part m at zero = refl
@@ -94,6 +107,18 @@ pub part-none : (m : List ℕ) (at n : ℕ) → n ≤ 0 → part m at n ≡ []
 unfolding part
 part-none m at zero h = refl
 part-none m at (suc n) h = absurd (omega arith)
+
+-- a part in two
+pub part-append : (m : List ℕ) (at n k : ℕ) → part m at (n + k) ≡ part m at n ++ part m (at + n) k
+unfolding part
+part-append m at zero k =
+    let p : at ≡ at + 0 = omega arith in
+    let e : 0 + k ≡ k = omega arith in
+    ap₂ (part m) p e
+part-append m at (suc n) k =
+    let e : at + 1 + n ≡ at + suc n = omega arith in
+    ap (part m at) (suc-add n k)
+    ∙ ap (λ (l : List ℕ). getD m at 0 ∷ l) (part-append m (at + 1) n k ∙ ap (λ (p : ℕ). part m (at + 1) n ++ part m p k) e)
 
 -- a part is the list that has its bytes
 pub part-is : (m : List ℕ) (at n : ℕ) (vs : List ℕ) → length vs ≡ n → ((i : ℕ) → i < n → getD m (at + i) 0 ≡ getD vs i 0) → part m at n ≡ vs
@@ -160,6 +185,15 @@ over-append m at vs ws =
     over-is-sets m at (vs ++ ws) ∙ sets-append vs ws m at
     ∙ sym (over-is-sets (over m at vs) (at + length vs) ws ∙ ap (λ (l : List ℕ). sets l (at + length vs) ws) (over-is-sets m at vs))
 
+-- a store over one at the same place that is no shorter
+pub over-again : (m vs ws : List ℕ) (at : ℕ) → length ws ≤ length vs → over (over m at vs) at ws ≡ over m at (ws ++ drop (length ws) vs)
+unfolding over
+over-again m vs [] at h = over-nil (over m at vs) at
+over-again [] vs (w ∷ ws) at h = refl
+over-again (x ∷ m) vs (w ∷ ws) (suc at) h = ap (λ (l : List ℕ). x ∷ l) (over-again m vs (w ∷ ws) at h)
+over-again (x ∷ m) [] (w ∷ ws) zero h = absurd (omega arith)
+over-again (x ∷ m) (v ∷ vs) (w ∷ ws) zero h = ap (λ (l : List ℕ). w ∷ l) (over-again m vs ws zero (omega arith))
+
 sets-other : (vs m : List ℕ) (at p : ℕ) → (at ≤ p → p < at + length vs → ⊥) → getD (sets m at vs) p 0 ≡ getD m p 0
 sets-other [] m at p h = refl
 sets-other (v ∷ vs) m at p h =
@@ -184,43 +218,9 @@ sets-in (v ∷ vs) m at (suc i) h k =
 pub over-in : (m : List ℕ) (at : ℕ) (vs : List ℕ) (i : ℕ) → i < length vs → at + i < length m → getD (over m at vs) (at + i) 0 ≡ getD vs i 0
 over-in m at vs i h k = ap (λ (l : List ℕ). getD l (at + i) 0) (over-is-sets m at vs) ∙ sets-in vs m at i h k
 
--- ---- a loop that stores vs from a place on, byte by byte: d is the list after i of them
-
+-- nothing stored yet: where a loop begins
 pub over-none : (m : List ℕ) (at : ℕ) (vs : List ℕ) → m ≡ over m at (take 0 vs)
 over-none m at vs = sym (over-nil m at)
-
-pub over-more : (m vs d : List ℕ) (at i : ℕ) → d ≡ over m at (take i vs) → i < length vs → set d (at + i) (getD vs i 0) ≡ over m at (take (i + 1) vs)
-over-more m vs d at i e h =
-    let t : take (i + 1) vs ≡ take i vs ++ one (getD vs i 0) = rw add-one (unfold one in take-suc vs i 0 h) in
-    let l : length (take i vs) ≡ i = length-take-le i vs (omega arith) in
-    rw (t, over-append m at (take i vs) (one (getD vs i 0)), l, over-one (over m at (take i vs)) (at + i) (getD vs i 0), e) refl
-
--- the rest lies past the end
-pub over-full : (m vs d : List ℕ) (at i : ℕ) → d ≡ over m at (take i vs) → i < length vs → length m ≤ at + i → d ≡ over m at vs
-over-full m vs d at i e h l = rest (take-append-drop i vs) (length-take-le i vs (omega arith))
-  where
-    rest : take i vs ++ drop i vs ≡ vs → length (take i vs) ≡ i → d ≡ over m at vs
-    rest t k =
-        e
-        ∙ sym (over-out (over m at (take i vs)) (at + length (take i vs)) (drop i vs) (rw (length-over, k) l))
-        ∙ sym (over-append m at (take i vs) (drop i vs))
-        ∙ ap (over m at) t
-
-pub over-all : (m vs d : List ℕ) (at i : ℕ) → d ≡ over m at (take i vs) → length vs ≤ i → d ≡ over m at vs
-over-all m vs d at i e h = e ∙ ap (over m at) (take-all i vs h)
-
--- the same where vs is a part of a list
-module _ (m src d : List ℕ) (at from n i : ℕ) (e : d ≡ over m at (take i (part src from n))) where
-  pub over-part-more : (v : ℕ) → i < n → v ≡ getD src (from + i) 0 → set d (at + i) v ≡ over m at (take (i + 1) (part src from n))
-  over-part-more v h k =
-      ap (λ (x : ℕ). set d (at + i) x) (k ∙ sym (part-at src from n i h))
-      ∙ over-more m (part src from n) d at i e (rw length-part h)
-
-  pub over-part-full : i < n → length d ≡ length m → length d - at ≤ i → d ≡ over m at (part src from n)
-  over-part-full h l k = over-full m (part src from n) d at i e (rw length-part h) (omega arith)
-
-  pub over-part-all : n ≤ i → d ≡ over m at (part src from n)
-  over-part-all h = over-all m (part src from n) d at i e (rw length-part h)
 
 -- ---- two runs of bytes compared, turn by turn
 
@@ -241,12 +241,6 @@ same-end xs ys i j n v h = rw (v, part-none xs i n h, part-none ys j n h) refl
 pub part-past : (m : List ℕ) (at n : ℕ) → length m ≤ at → part m at n ≡ zeros n
 part-past m at n h =
     part-is m at n (zeros n) (length-zeros n) (λ i b. sym (byte-out-from m at i h) ∙ sym (zeros-at n i))
-
-pub over-whole : (m d src : List ℕ) (at : ℕ) → d ≡ over m at (part src 0 (length src)) → d ≡ over m at src
-over-whole m d src at e = e ∙ ap (over m at) (part-all src (length src) refl)
-
-pub over-past : (m d src : List ℕ) (at from n : ℕ) → length src ≤ from → d ≡ over m at (part src from n) → d ≡ over m at (zeros n)
-over-past m d src at from n h e = e ∙ ap (over m at) (part-past src from n h)
 
 -- lists that are the same are equal, and a list is the same as itself
 pub same-refl : (xs : List ℕ) → same xs xs ≡ true

@@ -1,6 +1,7 @@
 -- Laws of the definitions of `rules`, which proofs cite.
 pub mod Tests
 pub mod Bytes
+pub mod Lent
 pub mod Single
 pub mod Walk
 pub mod Each

@@ -1,4 +1,6 @@
-use Rattle.laws.specs.Bytes.{over-past}
+use Rattle.cells.proofs.Laws.{wiped-rest, wiped-part}
+use mathlib.Core.Path.{sym}
+use Rattle.laws.specs.Bytes.{over-out}
 use borrow.Author.Needs.{needs}
 use Rattle.cells.proofs.clear.Statement.{statement}
 use Rattle.cells.proofs.clear.Tie as tie
@@ -7,4 +9,7 @@ pub clear-spec : {M : Type 1} → statement M
 clear-spec =
     tie.close
     (tie.spec
-    (λ c. search needs) (λ c κs. search needs) (λ c. search needs) (λ c. search (needs, over-past)))
+    (λ c. sym (over-out _ _ _ (c .if1 .taken))) (λ c. search needs) (λ c. search needs) (λ c. search needs)
+    (λ c. search needs) (λ c κs. search needs) (λ c. search needs) (λ c. search wiped-rest) (λ c. search needs)
+    (λ c. search needs) (λ c. search needs) (λ c. search needs) (λ c κs. search needs) (λ c. search needs)
+    (λ c. search wiped-part))

@@ -1,4 +1,6 @@
-use Rattle.laws.specs.Bytes.{over-whole}
+use Rattle.cells.proofs.Laws.{laid-rest, laid-part}
+use mathlib.Core.Path.{sym}
+use Rattle.laws.specs.Bytes.{over-out}
 use borrow.Author.Needs.{needs}
 use Rattle.cells.proofs.store.Statement.{statement}
 use Rattle.cells.proofs.store.Tie as tie
@@ -7,4 +9,7 @@ pub store-spec : {M : Type 1} → statement M
 store-spec =
     tie.close
     (tie.spec
-    (λ c κs. search needs) (λ c. search needs) (λ c. search over-whole))
+    (λ c. sym (over-out _ _ _ (c .if1 .taken))) (λ c. search needs) (λ c. search needs) (λ c. search needs)
+    (λ c. search needs) (λ c κs. search needs) (λ c. search needs) (λ c. search laid-rest) (λ c. search needs)
+    (λ c. search needs) (λ c. search needs) (λ c. search needs) (λ c κs. search needs) (λ c. search needs)
+    (λ c. search laid-part))
