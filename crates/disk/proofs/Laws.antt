@@ -1,17 +1,20 @@
--- Products of bytes fit; the shape from its numbers; a link that may be absent.
+-- Products of bytes fit; the shape from its numbers; a link that may be absent; data stored in a sector's own part of the image.
 use mathlib.Core.Path.{_≡_, refl, ap, _∙_}
 use mathlib.Core.Bool.{Bool, true, false}
 use mathlib.Core.List.{List}
-use Prim.Native.Nat.{ℕ, _+_, _*_, _≤_, _<_}
+use Prim.Native.Nat.{ℕ, _+_, _-_, _*_, _≤_, _<_}
 use native.Mathlib.Nat.{mul-le-mul}
 use native.Mathlib.Omega.{arith}
+use borrow.Rule.Slice.PartMut.{midOf, putMid}
 use lib.ListN.{length, getD}
 use lib.Dec.{eqb}
 use borrow.Author.Tests.{le-leb, lt-leb}
-use Rattle.rules.specs.Bytes.{within, over, two}
+use Rattle.rules.specs.Bytes.{within, part, over, two}
 use Rattle.rules.specs.Stores.{stored}
 use Rattle.rules.specs.Image.{shapeRight}
 use Rattle.rules.specs.Transfer.{linked}
+use Rattle.laws.specs.Bytes.{length-part}
+use Rattle.laws.specs.Lent.{over-within}
 use Rattle.disk.specs.Loaded.{isShape, shapeOf}
 use Rattle.disk.specs.declared.Shaped.the-variants.{Right, Wrong}
 
@@ -68,3 +71,8 @@ module _ (img : List ℕ) (none : Bool) (k a : ℕ) where
   pub link-some : {d : List ℕ} → none ≡ false → d ≡ over img (256 * k) (two a) → d ≡ stored img (linked none k a)
   unfolding linked
   link-some h e = rw h (e ∙ ap (λ (n : ℕ). over img n (two a)) (omega arith))
+
+-- the data of the sector whose 256 bytes begin at o
+pub data-stored : (m d tab : List ℕ) (o from : ℕ) → o + 256 ≤ length m → d ≡ over (midOf o (o + 256 - o) m) 4 (part tab from 252)
+    → putMid o (o + 256 - o) m d ≡ over m (o + 4) (part tab from 252)
+data-stored m d tab o from h e = over-within m d (part tab from 252) o 256 4 h (omega (arith, length-part tab from 252)) e

@@ -149,18 +149,29 @@ pub fn put_free(image: &mut [u8], first: u16, last: u16, count: u16)
     put6(image, 256 * 2 + 29, first, last, count);
 }
 
-// A sector of the image loaded.
+// A sector of the image loaded: its own 256 bytes are passed on. Where the image ends earlier, what is missing reads as 0.
 pub fn load_sector(table: &mut [u8], at: usize, image: &[u8], k: u16)
     ensures { λ _. ⌜ now (table .exit) ≡ over (now (table .entry)) at (part (now (image .entry)) (256 * k) 256) ⌝ }
 {
-    copy(table, at, image, 256 * k as usize, 256);
+    let o = 256 * k as usize;
+    if image.len() < o + 256 {
+        copy(table, at, image, o, 256);
+        return;
+    }
+    store(table, at, &image[o..o + 256]);
 }
 
-// The data of a sector, its bytes 4 to 255, stored.
+// The data of a sector, its bytes 4 to 255, stored into its own 256 bytes. Where the image ends earlier, what would lie behind
+// its end is not stored.
 pub fn store_data(image: &mut [u8], k: u16, table: &[u8], from: usize)
     ensures { λ _. ⌜ now (image .exit) ≡ over (now (image .entry)) (256 * k + 4) (part (now (table .entry)) from 252) ⌝ }
 {
-    copy(image, 256 * k as usize + 4, table, from, 252);
+    let o = 256 * k as usize;
+    if image.len() < o + 256 {
+        copy(image, o + 4, table, from, 252);
+        return;
+    }
+    copy(&mut image[o..o + 256], 4, table, from, 252);
 }
 
 // A new sector stored: its record number is the size, its link 0,0, its data zeros.

@@ -1,9 +1,10 @@
 -- Laws that the proofs of this crate cite: what each way out of a function comes to.
-use mathlib.Core.Path.{_≡_, refl}
+use mathlib.Core.Path.{_≡_, refl, sym, ap, _∙_}
 use mathlib.Core.Bool.{Bool, true, false}
-use mathlib.Core.List.{List, [], _∷_, _++_, append-assoc}
+use mathlib.Core.List.{List, [], _∷_, _++_, append-assoc, append-nil}
 use Prim.Native.Nat.{ℕ, _+_, _*_, _%_}
 use native.Mathlib.Omega.{arith}
+use lib.ListN.{length, drop, drop-of-length-le}
 use borrow.Author.Tests.{eq-eqb, ne-eqb}
 use Rattle.rules.specs.Bytes.{byteAt, wordAt, part, over, one}
 use Rattle.rules.specs.Stores.{stored, Put, puts, put}
@@ -13,7 +14,7 @@ use Rattle.rules.specs.declared.Lookup.the-variants.{At, Missing, Broken}
 use Rattle.rules.specs.Outcome.{Outcome, refuse, done, andThen, Out, out, left, settled}
 use Rattle.rules.specs.Block.{indexField, bufferField, activityIn, positionIn, startIn, indexIn}
 use Rattle.rules.specs.Transfer.{nextToRead, loadPuts, load, reading, slotIn, takeSector, sent, fill, writing, shut, mark, closeWriting, close}
-use Rattle.laws.specs.Bytes.{over-append, length-part}
+use Rattle.laws.specs.Bytes.{over-append, over-again, length-one, length-part, part-append}
 use Rattle.laws.specs.Stores.{puts-append}
 use Rattle.taking.specs.Take.{taken}
 use Rattle.taking.specs.Promises.{Numbered, numbered, take-numbered}
@@ -76,11 +77,32 @@ module _ (img tab : List ℕ) (M S f b : ℕ) {r : ℕ} {i t t′ : List ℕ} (k
   pub first-done : r ≡ 0 → t′ ≡ puts t f (sent 4 b ++ put 1 (one 0) ∷ []) → out 0 0 i t′ ≡ left img tab f (settled (andThen (takeSector img tab M S f) (sent 4 b)))
   first-done h d = done-first img tab f (sent 4 b) (takeSector img tab M S f) (take-numbered img tab M S f) k h d
 
--- the data of a sector in two pieces
-pub data-full : (img tab : List ℕ) (S f a b : ℕ) {k : ℕ} {i i′ : List ℕ} → i′ ≡ over i (256 * k + 4 + 251) (one b) → i ≡ over img (256 * k + 4) (part tab (f + 68) 251)
+-- the data of a sector stored, then its last byte over the one that stood in the buffer
+last-again : (m tab : List ℕ) (at from b : ℕ) → over (over m at (part tab from 252)) (at + 251) (one b) ≡ over m at (part tab from 251 ++ one b)
+last-again m tab at from b =
+    ap (λ (x : List ℕ). over (over m at x) (at + 251) (one b)) (part-append tab from 251 1)
+    ∙ ap (λ (x : List ℕ). over x (at + 251) (one b)) (behind (part tab (from + 251) 1))
+    ∙ over-again (over m at (part tab from 251)) (part tab (from + 251) 1) (one b) (at + 251) (omega (arith, length-one b, l))
+    ∙ ap (over (over m at (part tab from 251)) (at + 251)) (ap (λ (x : List ℕ). one b ++ x) rest ∙ append-nil (one b))
+    ∙ sym (behind (one b))
+  where
+    l : length (part tab (from + 251) 1) ≡ 1
+    l = length-part tab (from + 251) 1
+
+    rest : drop (length (one b)) (part tab (from + 251) 1) ≡ []
+    rest = drop-of-length-le (part tab (from + 251) 1) {i = length (one b)} (omega (arith, length-one b, l))
+
+    behind : (vs : List ℕ) → over m at (part tab from 251 ++ vs) ≡ over (over m at (part tab from 251)) (at + 251) vs
+    behind vs = over-append m at (part tab from 251) vs ∙ ap (λ (n : ℕ). over (over m at (part tab from 251)) (at + n) vs) (length-part tab from 251)
+
+pub data-full : (img tab : List ℕ) (S f a b : ℕ) {k : ℕ} {i i′ : List ℕ} → i′ ≡ over i (256 * k + 255) (one b) → i ≡ over img (256 * k + 4) (part tab (f + 68) 252)
     → k ≡ index S a → i′ ≡ over img (256 * index S a + 4) (part tab (f + (bufferField + 4)) 251 ++ one b)
-data-full img tab S f a b p q e =
-    rw (over-append img (256 * index S a + 4) (part tab (f + 68) 251) (one b), length-part tab (f + 68) 251, ← e) (cc)
+data-full img tab S f a b {k} {i} p q e =
+    let n : 256 * k + 255 ≡ 256 * k + 4 + 251 = omega arith in
+    p ∙ ap (λ (x : ℕ). over i x (one b)) n
+    ∙ ap (λ (x : List ℕ). over x (256 * k + 4 + 251) (one b)) q
+    ∙ last-again img tab (256 * k + 4) (f + 68) b
+    ∙ ap (λ (x : ℕ). over img (256 * x + 4) (part tab (f + 68) 251 ++ one b)) e
 
 module _ (img tab : List ℕ) (M S f b : ℕ) {a : ℕ} {v : Bool} (p : a ≡ positionIn tab f) (q : v ≡ isData M S a) where
   pub fill-bad : {r : ℕ} {t : List ℕ} → v ≡ false → r ≡ 10 → t ≡ over tab (f + 1) (one 10) → out r 0 img t ≡ left img tab f (settled (fill tab M S f b))

@@ -116,9 +116,8 @@ fn store_full(image: &mut [u8], table: &[u8], per: u8, f: u16, a: u16, byte: u8)
     ensures { λ _. ⌜ now (image .exit) ≡ over (now (image .entry)) (256 * index per a + 4) (part (now (table .entry)) (f + (bufferField + 4)) 251 ++ one byte) ⌝ }
 {
     let k = index_of(per, a);
-    let at = 256 * k as usize + 4;
-    copy(image, at, table, f as usize + 68, 251);
-    put(image, at + 251, byte);
+    store_data(image, k, table, f as usize + 68);
+    put(image, 256 * k as usize + 255, byte);
 }
 
 // The last byte of a sector, whose data is stored.
