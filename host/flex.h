@@ -28,8 +28,8 @@ extern "C" {
 #endif
 
 /* The version of this header: 10000 * major + 100 * minor + patch, and as text. docs/HOST.md says what each part means. */
-#define FLEX_VERSION 300
-#define FLEX_VERSION_TEXT "0.3.0"
+#define FLEX_VERSION 400
+#define FLEX_VERSION_TEXT "0.4.0"
 
 /* The table: eight control blocks of 320 bytes. All zero means that all are closed. */
 #define FLEX_BLOCKS 8

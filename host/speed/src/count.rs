@@ -1,12 +1,14 @@
 //! One job, done once, inside a function by whose name a tool knows when to count: all that makes its diskette is outside.
 
-use crate::jobs::{half_full, outputs, to_fill, to_read, Buffers, Service, PLAIN, PROVED};
+use crate::jobs::{data_sectors, half_full, outputs, to_fill, to_load, to_read, Buffers, Service, PLAIN, PROVED};
 
 /// A job with its buffers made ready.
 enum Job {
     Census(Vec<u8>, [Vec<u8>; 2]),
     Fill(Buffers),
     Read(Buffers),
+    Load(Buffers, Vec<[u8; 2]>),
+    Store(Buffers, Vec<[u8; 2]>),
 }
 
 /// Does the job that the words of the command ask for. None: they are no words for a job.
@@ -20,7 +22,7 @@ pub fn one(service: &str, job: &str, last: &str, per: &str) -> Option<()> {
     let per = per.parse().ok().filter(|per| (5..37).contains(per))?;
     let mut job = ready(job, last, per)?;
     let done = counted_job(service, &mut job);
-    assert_eq!(done, last * per * 252, "not all bytes were taken, given or surveyed");
+    assert_eq!(done, last * per * flex::DATA, "not all bytes were taken, given, loaded, stored or surveyed");
     Some(())
 }
 
@@ -28,13 +30,17 @@ fn ready(job: &str, last: usize, per: usize) -> Option<Job> {
     match job {
         "census" => Some(Job::Census(half_full(last, per), outputs(last * per))),
         "fill" => Some(Job::Fill(to_fill(last, per))),
-        "read" => {
-            let mut buffers = to_fill(last, per);
-            PROVED.fill(&mut buffers);
-            Some(Job::Read(to_read(buffers)))
-        }
+        "read" => Some(Job::Read(to_read(filled(last, per)))),
+        "load" => Some(Job::Load(to_load(filled(last, per)), data_sectors(last, per))),
+        "store" => Some(Job::Store(to_fill(last, per), data_sectors(last, per))),
         _ => None,
     }
+}
+
+fn filled(last: usize, per: usize) -> Buffers {
+    let mut buffers = to_fill(last, per);
+    PROVED.fill(&mut buffers);
+    buffers
 }
 
 /// How many bytes of files it went over. host/speed/counts names this function.
@@ -43,9 +49,11 @@ fn counted_job(service: Service, job: &mut Job) -> usize {
     match job {
         Job::Census(image, lists) => {
             service.survey(image, lists);
-            lists[0].len() / 2 * 252
+            lists[0].len() / 2 * flex::DATA
         }
         Job::Fill(buffers) => service.fill(buffers),
         Job::Read(buffers) => service.read(buffers),
+        Job::Load(buffers, sectors) => service.load(buffers, sectors) * flex::DATA,
+        Job::Store(buffers, sectors) => service.store(buffers, sectors) * flex::DATA,
     }
 }

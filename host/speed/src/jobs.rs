@@ -57,6 +57,26 @@ impl Service {
         fetched
     }
 
+    /// Loads the data sectors in order, as long as the last byte of each is the one that filling left there; how many were.
+    pub fn load(&self, (image, table): &mut Buffers, sectors: &[[u8; 2]]) -> usize {
+        let is_loaded = |(n, address): (usize, &[u8; 2])| {
+            table[flex::POSITION..flex::POSITION + 2].copy_from_slice(address);
+            (self.call)(image, table, 0, 0) == 0 && table[flex::BUFFER + 255] == (n * flex::DATA + 251) as u8
+        };
+        sectors.iter().enumerate().map(is_loaded).take_while(|&done| done).count()
+    }
+
+    /// Stores the buffer into the data sectors in order, by the byte that fills it; how many have that byte at their end.
+    pub fn store(&self, (image, table): &mut Buffers, sectors: &[[u8; 2]]) -> usize {
+        let first = image.len() - sectors.len() * flex::SECTOR;
+        let is_stored = |(n, address): (usize, &[u8; 2])| {
+            table[flex::POSITION..flex::POSITION + 2].copy_from_slice(address);
+            table[flex::INDEX] = 255;
+            (self.call)(image, table, 0, !n as u8) == 0 && image[first + n * flex::SECTOR + 255] == !n as u8
+        };
+        sectors.iter().enumerate().map(is_stored).take_while(|&done| done).count()
+    }
+
     /// Takes the census of a diskette that has to be sound.
     pub fn survey(&self, image: &[u8], [sectors, owners]: &mut [Vec<u8>; 2]) {
         assert_eq!((self.census)(image, sectors, owners), 0, "the census refused");
@@ -96,6 +116,20 @@ pub fn to_read(filled: Buffers) -> Buffers {
     })
 }
 
+/// That file, written or read by now, closed, and read sector chosen.
+pub fn to_load(used: Buffers) -> Buffers {
+    worked(used, |diskette| {
+        diskette.ask(0, flex::CLOSE)?;
+        diskette.choose(0, flex::READ_SECTOR).map(|()| 0)
+    })
+}
+
+/// The addresses of the data sectors, in order.
+pub fn data_sectors(last: usize, per: usize) -> Vec<[u8; 2]> {
+    let track = |track: usize| (1..=per).map(move |sector| [track as u8, sector as u8]);
+    (1..=last).flat_map(track).collect()
+}
+
 /// How many files the half-full diskette has.
 pub fn files(last: usize, per: usize) -> usize {
     flex::BLOCKS.min(last * per / 2)
@@ -104,7 +138,7 @@ pub fn files(last: usize, per: usize) -> usize {
 /// The image of a diskette with eight files written at the same time, so that their sectors alternate, until half of it is in
 /// use. Those that got no sector are deleted by their close.
 pub fn half_full(last: usize, per: usize) -> Vec<u8> {
-    let bytes: Vec<u8> = (0..252).collect();
+    let bytes: Vec<u8> = (0..flex::DATA as u8).collect();
     let work = |diskette: &mut Diskette| {
         for fcb in 0..flex::BLOCKS {
             diskette.create(fcb, &name(fcb), DATE)?;

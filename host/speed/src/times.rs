@@ -1,9 +1,11 @@
 //! The times of both services. A diskette of 35 tracks of 10 sectors, of which 34 tracks hold data, is filled by single calls
-//! and read back; a census is taken of it, of the smallest diskette and of the largest. The two services take turns, every
-//! round starts from buffers that are cleared and made anew, and of all rounds the quickest counts, since what else the
-//! machine does can only slow one down.
+//! and read back, and its sectors are loaded and stored one by one; a census is taken of it, of the smallest diskette and of the
+//! largest. The two services take turns, every round starts from buffers that are cleared and made anew, and of all rounds
+//! the quickest counts, since what else the machine does can only slow one down.
 
-use crate::jobs::{files, half_full, outputs, to_fill, to_read, Service, PLAIN, PROVED};
+use crate::jobs::{
+    data_sectors, files, half_full, outputs, to_fill, to_load, to_read, Buffers, Service, PLAIN, PROVED,
+};
 use std::time::{Duration, Instant};
 
 /// Prints the table of times, the best of so many rounds.
@@ -16,33 +18,49 @@ pub fn all(rounds: usize) {
 }
 
 fn transfers(rounds: usize, last: usize, per: usize) {
-    let mut best = [[Duration::MAX; 2]; 2];
+    let mut best = [[Duration::MAX; 2]; 4];
     for _ in 0..rounds {
-        let (plain, plain_image) = fill_and_read(PLAIN, last, per);
-        let (proved, proved_image) = fill_and_read(PROVED, last, per);
-        assert!(plain_image == proved_image, "the two filled diskettes differ");
-        for i in 0..2 {
-            best[0][i] = best[0][i].min(proved[i]);
-            best[1][i] = best[1][i].min(plain[i]);
+        let (plain, plain_buffers) = transferred(PLAIN, last, per);
+        let (proved, proved_buffers) = transferred(PROVED, last, per);
+        assert!(plain_buffers == proved_buffers, "the two services' diskettes or tables differ");
+        for (best, times) in best.iter_mut().zip(proved.iter().zip(&plain)) {
+            *best = [best[0].min(*times.0), best[1].min(*times.1)];
         }
     }
     let sectors = last * per;
-    print_row(&format!("fill {}×{}, {} single calls", last, per, sectors * 252), sectors, best[0][0], best[1][0]);
-    print_row("read it back by single calls", sectors, best[0][1], best[1][1]);
+    let jobs = [
+        &format!("fill {}×{}, {} single calls", last, per, sectors * flex::DATA),
+        "read it back by single calls",
+        "load its sectors by read sector",
+        "store its sectors by their last byte",
+    ];
+    for (job, [proved, plain]) in jobs.iter().zip(best) {
+        print_row(job, sectors, proved, plain);
+    }
 }
 
-/// The times for filling a blank diskette with one file and for reading that back, and the image.
-fn fill_and_read(service: Service, last: usize, per: usize) -> ([Duration; 2], Vec<u8>) {
+/// The times for filling a blank diskette with one file, for reading that back, for loading its sectors and for storing those
+/// of another one, and the buffers of both.
+fn transferred(service: Service, last: usize, per: usize) -> ([Duration; 4], [Buffers; 2]) {
+    let sectors = data_sectors(last, per);
     let mut buffers = to_fill(last, per);
-    let began = Instant::now();
-    let sent = service.fill(&mut buffers);
-    let filled = began.elapsed();
+    let (fill, sent) = timed(|| service.fill(&mut buffers));
     let mut buffers = to_read(buffers);
+    let (read, fetched) = timed(|| service.read(&mut buffers));
+    let mut buffers = to_load(buffers);
+    let (load, loaded) = timed(|| service.load(&mut buffers, &sectors));
+    let mut others = to_fill(last, per);
+    let (store, stored) = timed(|| service.store(&mut others, &sectors));
+    let bytes = sectors.len() * flex::DATA;
+    let done = [sent, fetched, loaded * flex::DATA, stored * flex::DATA];
+    assert_eq!(done, [bytes; 4], "not all was filled, read back, loaded and stored");
+    ([fill, read, load, store], [buffers, others])
+}
+
+fn timed<T>(work: impl FnOnce() -> T) -> (Duration, T) {
     let began = Instant::now();
-    let fetched = service.read(&mut buffers);
-    let read = began.elapsed();
-    assert_eq!((sent, fetched), (last * per * 252, last * per * 252), "the diskette was not filled and read back");
-    ([filled, read], buffers.0)
+    let done = work();
+    (began.elapsed(), done)
 }
 
 fn censuses(rounds: usize, last: usize, per: usize) {
