@@ -8,7 +8,7 @@ use borrow.Rule.Slice.PartMut.{midOf, putMid, mid-len}
 use lib.ListN.{length, getD, set, take, drop}
 use lib.Seq.{take-suc, take-suc-set, take-all}
 use Rattle.rules.specs.Bytes.{part, over, one, two, zeros}
-use Rattle.laws.specs.Bytes.{length-zeros, zeros-at, take-zeros, drop-zeros, part-slice, part-append, part-past, over-append, over-again}
+use Rattle.laws.specs.Bytes.{length-zeros, zeros-at, take-zeros, drop-zeros, part-slice, part-join, part-past, over-append, over-again}
 use Rattle.laws.specs.Lent.{over-part, over-whole}
 
 -- ---- a loop that sets the bytes of a part to those of vs: d is the part after i of them
@@ -72,9 +72,9 @@ module _ (m d src : List ℕ) (at from n : ℕ) where
       short l =
           let s : n ≡ length src - from + (n - (length src - from)) = omega arith in
           ap (part src from) s
-          ∙ part-append src from (length src - from) (n - (length src - from))
+          ∙ sym (part-join src (length src - from) (n - (length src - from)) from (length src) (omega arith))
           ∙ ap₂ (λ (x y : List ℕ). x ++ y) (part-slice src from (length src - from) (omega arith))
-          (part-past src (from + (length src - from)) (n - (length src - from)) (omega arith)
+          (part-past src (length src) (n - (length src - from)) (omega arith)
           ∙ sym (drop-zeros (length src - from) n)
           ∙ ap (λ (j : ℕ). drop j (zeros n)) (sym l))
 

@@ -21,6 +21,7 @@ use Rattle.disk.specs.declared.Shaped.the-variants.{Wrong}
 use Rattle.disk.specs.Loaded.{shapeOf}
 use Rattle.disk.specs.Shapes.{Shaping, wrong-is}
 use Rattle.laws.specs.Bytes.{over-append, over-none, length-two}
+use Rattle.laws.specs.Lent.{over-exact}
 
 -- ---- numbers as bytes
 
@@ -52,14 +53,6 @@ spread-more m d e xs i v h k w g =
 
 pub spread-all : (m d xs : List ℕ) (i : ℕ) → d ≡ over m 0 (asBytes (take i xs)) → length xs ≤ i → d ≡ over m 0 (asBytes xs)
 spread-all m d xs i h k = h ∙ ap (λ (l : List ℕ). over m 0 (asBytes l)) (take-all i xs k)
-
--- all of a list is stored over
-over-exact : (m vs : List ℕ) → length vs ≡ length m → over m 0 vs ≡ vs
-unfolding over
-over-exact [] [] h = refl
-over-exact [] (v ∷ vs) h = absurd (omega arith)
-over-exact (x ∷ m) [] h = absurd (omega arith)
-over-exact (x ∷ m) (v ∷ vs) h = ap (λ (l : List ℕ). v ∷ l) (over-exact m vs (omega arith))
 
 bytes-full : (n : ℕ) → asBytes (replicate n 65535) ≡ replicate (2 * n) 255
 unfolding asBytes two

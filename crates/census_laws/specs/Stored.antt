@@ -1,6 +1,6 @@
 -- Runs of numbers stored in an output, one behind the other.
 use mathlib.Core.Path.{_≡_, refl, sym, ap, _∙_}
-use mathlib.Core.List.{List, [], _∷_, _++_}
+use mathlib.Core.List.{List, _∷_, _++_}
 use Prim.Native.Nat.{ℕ, _+_, _-_, _≤_, _<_}
 use native.Mathlib.Numerals.{add-one}
 use native.Mathlib.Omega.{arith}
@@ -8,14 +8,7 @@ use lib.ListN.{length, getD, set, take, drop, replicate, length-replicate, getD-
 use lib.Seq.{take-suc, length-take-le, take-all}
 use Rattle.rules.specs.Bytes.{over, one}
 use Rattle.laws.specs.Bytes.{over-append, over-one, over-out, length-over}
-
--- a run that is as long as the output takes its place
-pub over-exact : (m vs : List ℕ) → length vs ≡ length m → over m 0 vs ≡ vs
-unfolding over
-over-exact [] [] e = refl
-over-exact [] (v ∷ vs) e = absurd (omega arith)
-over-exact (x ∷ m) [] e = absurd (omega arith)
-over-exact (x ∷ m) (v ∷ vs) e = ap (λ (l : List ℕ). v ∷ l) (over-exact m vs (omega arith))
+use Rattle.laws.specs.Lent.{over-exact}
 
 -- a number, and the others behind it
 pub over-cons : (m : List ℕ) (at v : ℕ) (vs : List ℕ) → over m at (v ∷ vs) ≡ over (over m at (one v)) (at + 1) vs

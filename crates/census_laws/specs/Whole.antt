@@ -15,7 +15,7 @@ use Rattle.rules.specs.Census.{unless, twins, freeRight, filesRight, numbersFro
 use Rattle.laws.specs.Bytes.{over-append, length-zeros}
 use Rattle.laws.specs.Surveys.{length-numbers, length-owners, numbers-listed}
 use Rattle.census_laws.specs.Marks.{Marked, marked, marking, Marks, marking-once, once-short}
-use Rattle.census_laws.specs.Stored.{over-exact}
+use Rattle.laws.specs.Lent.{over-exact}
 use Rattle.census_laws.specs.Walks.{laid, chainAt, files, Lists, lists-kept, lists-not, lists-to, chain-lists, files-lists}
 use Rattle.census_laws.specs.declared.Listing.{Listing}
 use Rattle.census_laws.specs.declared.Listing.the-variants.{Upto, Wrong}

@@ -4,7 +4,6 @@ use mathlib.Core.Bool.{Bool, true, false}
 use mathlib.Core.List.{List, [], _∷_, _++_}
 use Prim.Native.Nat.{ℕ, zero, suc, _+_, _-_, _*_, _/_, _%_, _≤_, _<_}
 use native.Mathlib.Numerals.{add-one}
-use native.Mathlib.Nat.{suc-add}
 use native.Mathlib.Omega.{arith}
 use lib.ListN.{length, getD, set, take, drop, List·getD-eq-default, length-set, length-replicate}
 use lib.Seq.{sets, length-sets, getD-set-other, getD-set-same, set-out, ext-getD, drop-cons, take-all}
@@ -108,17 +107,16 @@ unfolding part
 part-none m at zero h = refl
 part-none m at (suc n) h = absurd (omega arith)
 
--- a part in two
-pub part-append : (m : List ℕ) (at n k : ℕ) → part m at (n + k) ≡ part m at n ++ part m (at + n) k
+-- a part of n bytes and the k bytes behind it are one part
+pub part-join : (m : List ℕ) (n k p q : ℕ) → p + n ≡ q → part m p n ++ part m q k ≡ part m p (n + k)
 unfolding part
-part-append m at zero k =
-    let p : at ≡ at + 0 = omega arith in
-    let e : 0 + k ≡ k = omega arith in
-    ap₂ (part m) p e
-part-append m at (suc n) k =
-    let e : at + 1 + n ≡ at + suc n = omega arith in
-    ap (part m at) (suc-add n k)
-    ∙ ap (λ (l : List ℕ). getD m at 0 ∷ l) (part-append m (at + 1) n k ∙ ap (λ (p : ℕ). part m (at + 1) n ++ part m p k) e)
+part-join m zero k p q e =
+    let u : q ≡ p = omega arith in
+    let v : k ≡ 0 + k = omega arith in
+    ap₂ (λ (x y : ℕ). part m x y) u v
+part-join m (suc n) k p q e =
+    let u : suc (n + k) ≡ suc n + k = omega arith in
+    ap (λ (l : List ℕ). getD m p 0 ∷ l) (part-join m n k (p + 1) q (omega arith)) ∙ ap (part m p) u
 
 -- a part is the list that has its bytes
 pub part-is : (m : List ℕ) (at n : ℕ) (vs : List ℕ) → length vs ≡ n → ((i : ℕ) → i < n → getD m (at + i) 0 ≡ getD vs i 0) → part m at n ≡ vs

@@ -9,14 +9,13 @@ use lib.Seq.{getD-set-same, getD-set-other}
 use Rattle.rules.specs.Bytes.{wordAt, part, over}
 use Rattle.rules.specs.Stores.{Put, put, puts}
 use Rattle.rules.specs.Block.{presetIn, extensionIn}
-use Rattle.laws.specs.Bytes.{word-same, part-at, part-is, part-same, part-all, length-part, length-over, over-in, over-other}
+use Rattle.laws.specs.Bytes.{part-join, word-same, part-at, part-is, part-same, part-all, length-part, length-over, over-in, over-other}
 use Rattle.laws.specs.Each.{Each}
 use Rattle.laws.specs.Stores.{Within, puts-other}
 use Rattle.chains.specs.Tally.{flat}
 use Rattle.demands.specs.Ledger.{request}
 use Rattle.demands.specs.Diskette.{fcbsFrom}
 use Rattle.met.specs.Searches.{part-part}
-use Rattle.met.specs.Picture.{part-join}
 
 -- ---- a part of a list, and what is stored in it
 

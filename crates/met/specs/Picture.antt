@@ -11,7 +11,7 @@ use lib.Seq.{ext-getD}
 use Rattle.rules.specs.Bytes.{wordAt, part, over, two, six}
 use Rattle.rules.specs.Stores.{Store, store, stored}
 use Rattle.rules.specs.Directory.{live, slotsOf}
-use Rattle.laws.specs.Bytes.{part-at, length-part, length-two, length-over, over-in, over-other}
+use Rattle.laws.specs.Bytes.{part-at, part-join, length-part, length-two, length-over, over-in, over-other}
 use Rattle.laws.specs.Each.{Each, each-append}
 use Rattle.laws.specs.Stores.{Piece, piece, begins, bytesOf, laid, Off, inImage, stored-laid, in-image-append, length-stored}
 use Rattle.laws.specs.Addresses.{Shape}
@@ -26,17 +26,6 @@ use Rattle.met.specs.Relation.{Agrees}
 use Rattle.met.specs.Sectors.{free-data, secs-data}
 
 -- ---- parts
-
--- a part of n bytes and the k bytes behind it are one part
-pub part-join : (m : List ℕ) (n k p q : ℕ) → p + n ≡ q → part m p n ++ part m q k ≡ part m p (n + k)
-unfolding part
-part-join m zero k p q e =
-    let u : q ≡ p = omega arith in
-    let v : k ≡ 0 + k = omega arith in
-    ap₂ (λ (x y : ℕ). part m x y) u v
-part-join m (suc n) k p q e =
-    let u : suc (n + k) ≡ suc n + k = omega arith in
-    ap (λ (l : List ℕ). getD m p 0 ∷ l) (part-join m n k (p + 1) q (omega arith)) ∙ ap (part m p) u
 
 -- two bytes that are the number v
 pub part-two : (m : List ℕ) (p v : ℕ) → wordAt m p ≡ v → getD m p 0 < 256 → getD m (p + 1) 0 < 256 → part m p 2 ≡ two v

@@ -14,7 +14,7 @@ use Rattle.rules.specs.declared.Lookup.the-variants.{At, Missing, Broken}
 use Rattle.rules.specs.Outcome.{Outcome, refuse, done, andThen, Out, out, left, settled}
 use Rattle.rules.specs.Block.{indexField, bufferField, activityIn, positionIn, startIn, indexIn}
 use Rattle.rules.specs.Transfer.{nextToRead, loadPuts, load, reading, slotIn, takeSector, sent, fill, writing, shut, mark, closeWriting, close}
-use Rattle.laws.specs.Bytes.{over-append, over-again, length-one, length-part, part-append}
+use Rattle.laws.specs.Bytes.{over-append, over-again, length-one, length-part, part-join}
 use Rattle.laws.specs.Stores.{puts-append}
 use Rattle.taking.specs.Take.{taken}
 use Rattle.taking.specs.Promises.{Numbered, numbered, take-numbered}
@@ -80,7 +80,7 @@ module _ (img tab : List ℕ) (M S f b : ℕ) {r : ℕ} {i t t′ : List ℕ} (k
 -- the data of a sector stored, then its last byte over the one that stood in the buffer
 last-again : (m tab : List ℕ) (at from b : ℕ) → over (over m at (part tab from 252)) (at + 251) (one b) ≡ over m at (part tab from 251 ++ one b)
 last-again m tab at from b =
-    ap (λ (x : List ℕ). over (over m at x) (at + 251) (one b)) (part-append tab from 251 1)
+    ap (λ (x : List ℕ). over (over m at x) (at + 251) (one b)) (sym (part-join tab 251 1 from (from + 251) (omega arith)))
     ∙ ap (λ (x : List ℕ). over x (at + 251) (one b)) (behind (part tab (from + 251) 1))
     ∙ over-again (over m at (part tab from 251)) (part tab (from + 251) 1) (one b) (at + 251) (omega (arith, length-one b, l))
     ∙ ap (over (over m at (part tab from 251)) (at + 251)) (ap (λ (x : List ℕ). one b ++ x) rest ∙ append-nil (one b))
