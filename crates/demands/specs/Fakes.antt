@@ -7,10 +7,13 @@ use lib.ListN.{length}
 use lib.Dec.{eqb, ltb}
 use Rattle.rules.specs.Bytes.{pick, byteAt, wordAt, part, over, one, zeros}
 use Rattle.rules.specs.Image.{shapeRight, perTrack, freeCount}
-use Rattle.rules.specs.Directory.{slots, neverUsed, named}
+use Rattle.rules.specs.Directory.{slots, neverUsed, named, find, attributesAt}
 use Rattle.rules.specs.Outcome.{Out, out}
 use Rattle.rules.specs.Block.{functionIn, activityIn, nameIn}
+use Rattle.rules.specs.Files.{readProtected}
 use Rattle.rules.specs.Census.{Survey, survey}
+use Rattle.rules.specs.declared.Lookup.{Lookup}
+use Rattle.rules.specs.declared.Lookup.the-variants.{At, Missing, Broken}
 use Rattle.rules.specs.Text.{told as replied}
 use Rattle.demands.specs.Service.{Service, flex, leftOf}
 
@@ -43,6 +46,10 @@ withImage test f = withCall (λ img tab n b. spoilt (test tab n) f (λ m. m) (fl
 
 abbrev pub withTable : (List ℕ → ℕ → Bool) → (ℕ → List ℕ → List ℕ) → Service
 withTable test g = withCall (λ img tab n b. spoilt (test tab n) (λ m. m) (g n) (flex .call img tab n b))
+
+-- where ours gives this answer and the test holds, something else comes instead
+abbrev pub instead : ℕ → Bool → Out → Out → Out
+instead e t other (out a b img tab) = pick (pick (eqb a e) t false) other (out a b img tab)
 
 -- ---- 01, "Fakes to try"
 
@@ -189,16 +196,42 @@ abbrev pub seenBefore : List ℕ → List ℕ → List ℕ → Bool
 seenBefore img name [] = false
 seenBefore img name (o ∷ os) = pick (neverUsed img o) false (pick (named img name o) true (seenBefore img name os))
 
-abbrev pub missed : Bool → Out → Out → Out
-missed t instead (out a b img tab) = pick (pick (eqb a 0) t false) instead (out a b img tab)
-
 abbrev pub stopping : Service
 stopping = withCall (λ img tab n b.
-    missed (pick (asksFor 1 tab n) (not (seenBefore img (nameIn tab (320 * n)) (slots img (perTrack img)))) false) (refusal 4 img tab n) (flex .call img tab n b))
+    instead 0 (pick (asksFor 1 tab n) (not (seenBefore img (nameIn tab (320 * n)) (slots img (perTrack img)))) false) (refusal 4 img tab n) (flex .call img tab n b))
 
 -- 4 is answered for 5. "5 directory not right"
-abbrev pub softened : ℕ → Out → Out
-softened n (out a b img tab) = pick (eqb a 5) (refusal 4 img tab n) (out a b img tab)
-
 abbrev pub softening : Service
-softening = withCall (λ img tab n b. softened n (flex .call img tab n b))
+softening = withCall (λ img tab n b. instead 5 true (refusal 4 img tab n) (flex .call img tab n b))
+
+-- the attributes of the slot that was found; the image with others there
+abbrev pub attributesOf : List ℕ → Lookup → ℕ
+attributesOf img (At o) = attributesAt img o
+attributesOf img Missing = 0
+attributesOf img Broken = 0
+
+abbrev pub withAttributes : ℕ → List ℕ → Lookup → List ℕ
+withAttributes v img (At o) = over img (o + 11) (one v)
+withAttributes v img Missing = img
+withAttributes v img Broken = img
+
+-- the slot that has the name of block n
+abbrev pub slotOfName : List ℕ → List ℕ → ℕ → Lookup
+slotOfName img tab n = find img (perTrack img) (nameIn tab (320 * n))
+
+-- a file of attribute 32 is opened for read as if it had none. "Open for read gives 17 for such a file"
+abbrev pub asOn : List ℕ → Out → Out
+asOn m (out a b img tab) = out a b m tab
+
+abbrev pub heedless : Service
+heedless = withCall (λ img tab n b.
+    instead 17 true (asOn img (flex .call (withAttributes 0 img (slotOfName img tab n)) tab n b)) (flex .call img tab n b))
+
+-- a file of attribute 32 is not deleted either. "12 delete: .. 21, 5, 4, 2 .., 12, 11"
+abbrev pub guarding : Service
+guarding = withCall (λ img tab n b.
+    instead 0 (pick (asksFor 12 tab n) (readProtected (attributesOf img (slotOfName img tab n))) false) (refusal 17 img tab n) (flex .call img tab n b))
+
+-- a new file gets attribute 32, so that nobody reads what it lost. "gets name and date, all else 0"
+abbrev pub sealing : Service
+sealing = withCall (λ img tab n b. spoilt (asksFor 2 tab n) (λ m. withAttributes 32 m (slotOfName m tab n)) (λ m. m) (flex .call img tab n b))

@@ -13,7 +13,7 @@ use Rattle.rules.specs.Names.{legal}
 use Rattle.rules.specs.Directory.{named, vacant, placeOf}
 use Rattle.rules.specs.Block.{functionField, activityField, driveField, nameField, dateField, positionField, recordField, indexField, placeField, newNameField, bufferField, presetIn, extensionIn}
 use Rattle.rules.specs.Transfer.{takePuts, sent, shut}
-use Rattle.rules.specs.Files.{opened, writeProtected, deleteProtected}
+use Rattle.rules.specs.Files.{opened, writeProtected, deleteProtected, readProtected}
 use Rattle.rules.specs.Call.{served, fits, misfit}
 use Rattle.chains.specs.Addresses.{adr}
 use Rattle.chains.specs.Tally.{flat}
@@ -301,8 +301,9 @@ module _ (M S : ℕ) (a : Ledger) (n : ℕ) (q : Request) where
   openedToRead =
       unlessA (legal (q .name) 0) 21
       (onSought (fileNamed (q .name) (a .slots)) (denied 4) (λ s.
-      whenA (busy false s (a .blocks) 8) 2
-      (granted 0 (setBlock a n (reading s 0 0)) (opened 1 ((file a s) .at) (entryOf (file a s))))))
+      whenA (readProtected (attributes a s)) 17
+      (whenA (busy false s (a .blocks) 8) 2
+      (granted 0 (setBlock a n (reading s 0 0)) (opened 1 ((file a s) .at) (entryOf (file a s)))))))
 
   -- 2
   unfoldable pub openedToWrite : Fate

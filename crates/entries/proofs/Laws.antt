@@ -7,7 +7,7 @@ use lib.ListN.{getD}
 use lib.Dec.{eqb}
 use Rattle.rules.specs.Bytes.{part}
 use Rattle.rules.specs.Directory.{attributesAt}
-use Rattle.rules.specs.Files.{writeProtected, deleteProtected}
+use Rattle.rules.specs.Files.{hasAttribute}
 
 three : (m : List ℕ) (at : ℕ) → getD m at 0 ∷ getD m (at + 1) 0 ∷ getD m (at + 2) 0 ∷ [] ≡ part m at 3
 unfolding part
@@ -28,10 +28,6 @@ module _ (m : List ℕ) (at : ℕ) {a b c : ℕ} (p : a ≡ getD m at 0) (q : b 
       → a ∷ b ∷ c ∷ d ∷ e ∷ f ∷ g ∷ h ∷ i ∷ j ∷ k ∷ [] ≡ part m at 11
   eleven-read s t u v w x y z = rw (p, q, r, s, t, u, v, w, x, y, z) (eleven m at)
 
-pub write-bit : (img : List ℕ) (slot : ℕ) {a : ℕ} → a ≡ getD img (slot + 11) 0 → eqb (a / 128 % 2) 1 ≡ writeProtected (attributesAt img slot)
-unfolding writeProtected
-write-bit img slot e = rw e refl
-
-pub delete-bit : (img : List ℕ) (slot : ℕ) {a : ℕ} → a ≡ getD img (slot + 11) 0 → eqb (a / 64 % 2) 1 ≡ deleteProtected (attributesAt img slot)
-unfolding deleteProtected
-delete-bit img slot e = rw e refl
+pub attribute-read : (img : List ℕ) (slot wanted : ℕ) {a : ℕ} → a ≡ getD img (slot + 11) 0 → eqb (a / wanted % 2) 1 ≡ hasAttribute wanted (attributesAt img slot)
+unfolding hasAttribute
+attribute-read img slot wanted e = rw e refl

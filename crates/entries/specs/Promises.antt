@@ -3,7 +3,7 @@ use mathlib.Core.List.{List}
 use Prim.Native.Nat.{ℕ}
 use Rattle.rules.specs.Bytes.{part, over}
 use Rattle.rules.specs.Directory.{attributesAt}
-use Rattle.rules.specs.Files.{writeProtected, deleteProtected}
+use Rattle.rules.specs.Files.{writeProtected, deleteProtected, readProtected}
 use Rattle.laws.specs.Single.{Single, single}
 use Rattle.entries.specs.Entries.{entryOf, newOf, bytesOf}
 use Rattle.entries.specs.declared.Entry.{Entry}
@@ -19,6 +19,9 @@ is-write-protected-single img slot = single (writeProtected (attributesAt img sl
 
 pub is-delete-protected-single : (img : List ℕ) (slot : ℕ) → Single (deleteProtected (attributesAt img slot))
 is-delete-protected-single img slot = single (deleteProtected (attributesAt img slot))
+
+pub is-read-protected-single : (img : List ℕ) (slot : ℕ) → Single (readProtected (attributesAt img slot))
+is-read-protected-single img slot = single (readProtected (attributesAt img slot))
 
 pub new-entry-single : (tab : List ℕ) (f : ℕ) → Single (newOf tab f)
 new-entry-single tab f = single (newOf tab f)

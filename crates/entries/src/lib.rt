@@ -1,13 +1,21 @@
 // A directory entry by value: loaded from a slot, made for a new file, stored.
 ghost use mathlib.Core.Path.{_≡_};
+ghost use Prim.Native.Nat.{_≤_};
 ghost use Rattle.rules.specs.Bytes.{part, over};
 ghost use Rattle.rules.specs.Directory.{attributesAt};
-ghost use Rattle.rules.specs.Files.{writeProtected, deleteProtected};
+ghost use Rattle.rules.specs.Files.{hasAttribute, writeProtected, deleteProtected, readProtected};
 ghost use Rattle.entries.specs.Entries.{entryOf, newOf, bytesOf};
 use cells::get;
 use cells::get_in;
 use cells::get2;
 use cells::store;
+
+// Attributes of a slot.
+const WRITE_PROTECT: u8 = 128;
+
+const DELETE_PROTECT: u8 = 64;
+
+const READ_PROTECT: u8 = 32;
 
 // The 24 bytes of a slot, which are bytes 4 to 27 of a control block. Bytes 12, 19 and 20 have no name in the rules; they are kept.
 pub struct Entry {
@@ -72,20 +80,34 @@ pub fn entry_at(image: &[u8], slot: u32) -> Entry
     }
 }
 
+// Is this attribute, a power of two, among the slot's?
+fn has_attribute(image: &[u8], slot: u32, wanted: u8) -> bool
+    requires { ⌜ 1 ≤ wanted ⌝ }
+    ensures { λ r. ⌜ r ≡ hasAttribute wanted (attributesAt (now (image .entry)) slot) ⌝ }
+{
+    let attributes = get(image, slot as usize + 11);
+    attributes / wanted % 2 == 1
+}
+
 // Does the slot say that the file may not be changed?
 pub fn is_write_protected(image: &[u8], slot: u32) -> bool
     ensures { λ r. ⌜ r ≡ writeProtected (attributesAt (now (image .entry)) slot) ⌝ }
 {
-    let attributes = get(image, slot as usize + 11);
-    attributes / 128 % 2 == 1
+    has_attribute(image, slot, WRITE_PROTECT)
 }
 
 // Does it say that the file may not be deleted?
 pub fn is_delete_protected(image: &[u8], slot: u32) -> bool
     ensures { λ r. ⌜ r ≡ deleteProtected (attributesAt (now (image .entry)) slot) ⌝ }
 {
-    let attributes = get(image, slot as usize + 11);
-    attributes / 64 % 2 == 1
+    has_attribute(image, slot, DELETE_PROTECT)
+}
+
+// Does it say that the file may not be read?
+pub fn is_read_protected(image: &[u8], slot: u32) -> bool
+    ensures { λ r. ⌜ r ≡ readProtected (attributesAt (now (image .entry)) slot) ⌝ }
+{
+    has_attribute(image, slot, READ_PROTECT)
 }
 
 // The entry of a new file: the name and the date of the block that begins at f, all else 0.

@@ -9,10 +9,10 @@ use borrow.Author.Tests.{ne-eqb}
 use Rattle.rules.specs.Bytes.{wordAt, part, over, one, zeros, same}
 use Rattle.rules.specs.Stores.{puts}
 use Rattle.rules.specs.Image.{index, isSector}
-use Rattle.rules.specs.Directory.{placed, placeOf}
+use Rattle.rules.specs.Directory.{placed, placeOf, attributesAt}
 use Rattle.rules.specs.Outcome.{Out, out, settled, left}
 use Rattle.rules.specs.Block.{inUse}
-use Rattle.rules.specs.Files.{opened, nextSlot, readSector}
+use Rattle.rules.specs.Files.{readProtected, opened, nextSlot, readSector}
 use Rattle.rules.specs.declared.Lookup.{Lookup}
 use Rattle.laws.specs.Walk.{slot-begins}
 use Rattle.entries.specs.Entries.{newOf, bytesOf, new-bytes}
@@ -21,10 +21,11 @@ use Rattle.files.specs.Parts.{opening, openReadAt, openWriteAt, firstSlo
 
 -- ---- open
 
-pub read-opened : (img tab : List ℕ) (f slot : ℕ) {v : Bool} {t t′ : List ℕ} → v ≡ inUse false tab (placeOf slot) → v ≡ false
+pub read-opened : (img tab : List ℕ) (f slot : ℕ) {u v : Bool} {t t′ : List ℕ} → u ≡ readProtected (attributesAt img slot) → u ≡ false
+    → v ≡ inUse false tab (placeOf slot) → v ≡ false
     → t ≡ over tab (f + 4) (part img slot 24) → t′ ≡ puts t f (opening 1 slot) → out 0 0 img t′ ≡ left img tab f (settled (openReadAt img tab slot))
 unfolding openReadAt opened opening
-read-opened img tab f slot e h p q = rw (← e, h, q, p) refl
+read-opened img tab f slot d g e h p q = rw (← d, g, ← e, h, q, p) refl
 
 pub write-opened : (img tab : List ℕ) (f slot : ℕ) {entry : Entry} {i t t′ : List ℕ} → entry ≡ newOf tab f → i ≡ over img slot (bytesOf entry)
     → t ≡ over tab (f + 4) (bytesOf entry) → t′ ≡ puts t f (opening 2 slot) → out 0 0 i t′ ≡ left img tab f (settled (openWriteAt tab f slot))

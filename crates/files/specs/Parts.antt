@@ -8,7 +8,7 @@ use Rattle.rules.specs.Directory.{directoryRight, firstOfDirectory, firstSlotOf
 use Rattle.rules.specs.Outcome.{Outcome, done, unless, when, onSlot, onNone}
 use Rattle.rules.specs.Block.{functionField, activityField, nameField, positionField, placeField, compressionField, newNameIn, inUse}
 use Rattle.rules.specs.Transfer.{slotIn}
-use Rattle.rules.specs.Files.{opened, newEntry, shown, writeProtected, deleteProtected, remove}
+use Rattle.rules.specs.Files.{opened, newEntry, shown, writeProtected, deleteProtected, readProtected, remove}
 
 -- ---- 1 open read, 2 open write
 
@@ -25,7 +25,10 @@ opening act slot =
 
 -- open read, once the slot is found
 unfoldable pub openReadAt : List ℕ → List ℕ → ℕ → Outcome
-openReadAt img tab slot = when (inUse false tab (placeOf slot)) 2 (done 0 [] (opened 1 slot (part img slot 24)))
+openReadAt img tab slot =
+    when (readProtected (attributesAt img slot)) 17
+    (when (inUse false tab (placeOf slot)) 2
+    (done 0 [] (opened 1 slot (part img slot 24))))
 
 -- open write, once a slot is chosen
 unfoldable pub openWriteAt : List ℕ → ℕ → ℕ → Outcome

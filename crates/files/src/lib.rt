@@ -27,6 +27,7 @@ use disk::index_of;
 use disk::is_sector;
 use disk::load_sector;
 use entries::is_delete_protected;
+use entries::is_read_protected;
 use entries::is_write_protected;
 use entries::name_at;
 use entries::new_entry;
@@ -72,9 +73,13 @@ fn open_block(table: &mut [u8], f: u16, activity: u8, slot: u32)
 fn open_read_at(image: &[u8], table: &mut [u8], f: u16, slot: u32) -> u8
     ensures { λ r. ⌜ out r 0 (now (image .entry)) (now (table .exit)) ≡ left (now (image .entry)) (now (table .entry)) f (settled (openReadAt (now (image .entry)) (now (table .entry)) slot)) ⌝ }
 {
+    let hidden = is_read_protected(image, slot);
+    if hidden {
+        return refuse(table, f, 17);
+    }
     let used = in_use(false, table, slot);
     if used {
-        return refuse(table, f, 2);
+        return refuse(table, f, 2); // it is being written
     }
     copy(table, f as usize + NAME, image, slot as usize, 24);
     open_block(table, f, 1, slot);

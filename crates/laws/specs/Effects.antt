@@ -32,7 +32,7 @@ lengths-kept img tab f e = (length-stored (onImage e) img, length-puts (onBlock 
 
 -- those that are given back for a refusal, 13 for table or number among them
 abbrev pub refusalNumbers : List ℕ
-refusalNumbers = 1 ∷ 2 ∷ 3 ∷ 4 ∷ 5 ∷ 6 ∷ 7 ∷ 8 ∷ 9 ∷ 10 ∷ 11 ∷ 12 ∷ 13 ∷ 16 ∷ 18 ∷ 21 ∷ []
+refusalNumbers = 1 ∷ 2 ∷ 3 ∷ 4 ∷ 5 ∷ 6 ∷ 7 ∷ 8 ∷ 9 ∷ 10 ∷ 11 ∷ 12 ∷ 13 ∷ 16 ∷ 17 ∷ 18 ∷ 21 ∷ []
 
 abbrev pub answerNumbers : List ℕ
 answerNumbers = 0 ∷ refusalNumbers
@@ -67,7 +67,7 @@ asked-stated img tab f b =
 
 -- a refusal's number is a byte, and not 0
 pub number-is : (e : ℕ) → member e refusalNumbers ≡ true → (1 ≤ e) × (e < 256)
-number-is e h = each-member (λ (x : ℕ). (1 ≤ x) × (x < 256)) refusalNumbers e (omega arith) h
+number-is e h = (each-member (λ (x : ℕ). 1 ≤ x) refusalNumbers e (omega arith) h, each-member (λ (x : ℕ). x < 256) refusalNumbers e (omega arith) h)
 
 pub asked-number : (img tab : List ℕ) (f b e : ℕ) → asked img tab f b ≡ refuse e → member e refusalNumbers ≡ true
 asked-number img tab f b e h = rw h at (asked-stated img tab f b)

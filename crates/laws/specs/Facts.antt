@@ -14,7 +14,7 @@ use Rattle.rules.specs.Directory.{member, find, vacancy, directoryRight, placeO
 use Rattle.rules.specs.Outcome.{Outcome}
 use Rattle.rules.specs.Block.{activityField, functionField, nameField, startField, positionField, recordField, indexField, placeField, newNameField, compressionField, bufferField, functionIn, activityIn, driveIn, sizeIn, positionIn, indexIn, nameIn, newNameIn, placeIn, inUse}
 use Rattle.rules.specs.Transfer.{nextToRead, loadPuts, load, reading, slotIn, linked, takeStores, takePuts, takeFor, takeSector, sent, fill, writing, transfer, shut, mark, closeWriting, close}
-use Rattle.rules.specs.Files.{opened, openRead, newEntry, openWrite, rewind, openDirectory, shown, nextSlot, readSector, writeProtected, deleteProtected, hangStores, gone, remove, delete, rename}
+use Rattle.rules.specs.Files.{opened, openRead, newEntry, openWrite, rewind, openDirectory, shown, nextSlot, readSector, writeProtected, deleteProtected, readProtected, hangStores, gone, remove, delete, rename}
 use Rattle.rules.specs.Call.{served, fits, misfit, checked, perform, asked}
 use Rattle.laws.specs.Tests.{clash, either, pick-all, pick-cases, pick-each}
 use Rattle.laws.specs.Bytes.{length-one}
@@ -42,7 +42,7 @@ abbrev pub inClose : List ℕ
 inClose = 5 ∷ 10 ∷ []
 
 abbrev pub inOpenRead : List ℕ
-inOpenRead = 21 ∷ 5 ∷ 4 ∷ 2 ∷ []
+inOpenRead = 21 ∷ 5 ∷ 4 ∷ 17 ∷ 2 ∷ []
 
 abbrev pub inOpenWrite : List ℕ
 inOpenWrite = 21 ∷ 5 ∷ 3 ∷ 6 ∷ []
@@ -293,8 +293,9 @@ module _ (img tab : List ℕ) (f b : ℕ) (z : Shaped img) where
   open-read-fair =
       pick-all (F inOpenRead 0) (legal tab (f + nameField)) _ _
       (onSlot-all (F inOpenRead 0) (find img S (nameIn tab f)) 5 4 _ refl refl
-      (λ slot e. pick-all (F inOpenRead 0) (inUse false tab (placeOf slot)) _ _ refl
-      (fair-still G N inOpenRead 0 _ (good-opened 1 slot _ (omega arith) (run-slot slot)))))
+      (λ slot e. pick-all (F inOpenRead 0) (readProtected (attributesAt img slot)) _ _ refl
+      (pick-all (F inOpenRead 0) (inUse false tab (placeOf slot)) _ _ refl
+      (fair-still G N inOpenRead 0 _ (good-opened 1 slot _ (omega arith) (run-slot slot))))))
       refl
 
   run-entry : Run G 24 (newEntry tab f)

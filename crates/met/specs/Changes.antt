@@ -15,7 +15,7 @@ use Rattle.rules.specs.Image.{isSector}
 use Rattle.rules.specs.Names.{legal}
 use Rattle.rules.specs.Directory.{live, named, vacant, slotsOf}
 use Rattle.rules.specs.Stores.{put}
-use Rattle.rules.specs.Files.{opened, writeProtected, deleteProtected}
+use Rattle.rules.specs.Files.{opened, writeProtected, deleteProtected, readProtected}
 use Rattle.rules.specs.Call.{served, fits}
 use Rattle.laws.specs.Tests.{pick-cases, pick-all}
 use Rattle.chains.specs.Addresses.{absurd-bool}
@@ -78,9 +78,9 @@ module _ (M S : ℕ) (a : Ledger) (n : ℕ) (q : Request) where
   unfolding openedToRead
   change-open-read ne = pick-all C (legal (q .name) 0) _ _ (go (fileNamed (q .name) (a .slots))) tt
     where
-      go : (x : Sought) → C (onSought x (denied 4) (λ s. pick (busy false s (a .blocks) 8) (denied 2) (granted 0 (setBlock a n (reading s 0 0)) (opened 1 ((file a s) .at) (entryOf (file a s))))))
+      go : (x : Sought) → C (onSought x (denied 4) (λ s. pick (readProtected (attributes a s)) (denied 17) (pick (busy false s (a .blocks) 8) (denied 2) (granted 0 (setBlock a n (reading s 0 0)) (opened 1 ((file a s) .at) (entryOf (file a s)))))))
       go nowhere = tt
-      go (slot s) = pick-all C (busy false s (a .blocks) 8) _ _ tt (turned ne _ (λ t h. absurd (omega arith)))
+      go (slot s) = pick-all C (readProtected (attributes a s)) _ _ tt (pick-all C (busy false s (a .blocks) 8) _ _ tt (turned ne _ (λ t h. absurd (omega arith))))
 
   change-open-write : q .code ≢ 13 → C (openedToWrite M S a n q)
   unfolding openedToWrite

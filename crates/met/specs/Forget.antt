@@ -19,7 +19,7 @@ use Rattle.rules.specs.Names.{legal}
 use Rattle.rules.specs.Directory.{live, named, vacant, placeOf}
 use Rattle.rules.specs.Block.{presettable, idle, activityIn, presetIn, extensionIn}
 use Rattle.rules.specs.Transfer.{takePuts, sent, shut, fresh}
-use Rattle.rules.specs.Files.{opened, writeProtected, deleteProtected}
+use Rattle.rules.specs.Files.{opened, writeProtected, deleteProtected, readProtected}
 use Rattle.rules.specs.Call.{served, fits, misfit}
 use Rattle.laws.specs.Bytes.{length-one, length-six, zeros-at, length-part, length-over, part-same}
 use Rattle.laws.specs.Each.{Each, each-append, each-at}
@@ -607,8 +607,9 @@ module _ (M S : ℕ) (z : Shape M S) (a a′ : Ledger) (r : Alike M S a a′) (n
   open-read-alike =
       like-pick M S (legal (q .name) 0) _ _ _ _ _ refl
       (λ _. like-sought M S (fileNamed (q .name) (a .slots)) _ _ _ _ _ (named-alike (q .name)) (refused refl)
-      (λ s. like-pick M S (busy false s (a .blocks) 8) _ _ _ _ _ (busy-alike false s) (λ _. refused refl)
-      (accepted refl (alike-block M S a a′ r n _ _ refl) (opened-alike 1 _ _ _ _ (r .files s .twin .at) (entry-alike M S a a′ r s)))))
+      (λ s. like-pick M S (readProtected (attributes a s)) _ _ _ _ _ (ap readProtected (mode-alike s)) (λ _. refused refl)
+      (like-pick M S (busy false s (a .blocks) 8) _ _ _ _ _ (busy-alike false s) (λ _. refused refl)
+      (accepted refl (alike-block M S a a′ r n _ _ refl) (opened-alike 1 _ _ _ _ (r .files s .twin .at) (entry-alike M S a a′ r s))))))
       (refused refl)
 
   open-write-alike : length (q .name) ≡ 11 → length (q .date) ≡ 3 → L (openedToWrite M S a n q) (openedToWrite M S a′ n q′)

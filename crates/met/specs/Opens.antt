@@ -13,10 +13,10 @@ use Rattle.laws.specs.Tests.{both, either, within-is}
 use Rattle.rules.specs.Bytes.{pick, within, wordAt, part, one, zeros}
 use Rattle.rules.specs.Stores.{store, stored, Put, put, puts}
 use Rattle.rules.specs.Names.{isLetter, isWord, legal}
-use Rattle.rules.specs.Directory.{slotsOf, live, neverUsed, named, vacant, placeOf, deleted}
+use Rattle.rules.specs.Directory.{slotsOf, live, neverUsed, named, vacant, placeOf, deleted, attributesAt}
 use Rattle.rules.specs.Outcome.{refuse, done, onSlot, onNone}
 use Rattle.rules.specs.Block.{inUse}
-use Rattle.rules.specs.Files.{opened, newEntry, openRead, openWrite}
+use Rattle.rules.specs.Files.{readProtected, opened, newEntry, openRead, openWrite}
 use Rattle.laws.specs.Bytes.{word-put, word-same, part-at, part-is, length-part, length-zeros, zeros-at}
 use Rattle.chains.specs.Tally.{tally}
 use Rattle.laws.specs.Addresses.{Shape}
@@ -25,11 +25,11 @@ use Rattle.chains.specs.Chain.{first-getD}
 use Rattle.chains.specs.Directory.{Listing}
 use Rattle.laws.specs.Each.{Each}
 use Rattle.laws.specs.Stores.{Within, Piece, begins, bytesOf, none, inBlock, Off, puts-off, puts-at}
-use Rattle.demands.specs.Ledger.{File, noFile, closed, reading, writing, Ledger, denied, granted, Sought, nowhere, slot, onSought, fileNamed, vacantSlot, busy, setBlock, setFile, newFile, entryOf, openedToRead, openedToWrite, request}
+use Rattle.demands.specs.Ledger.{File, noFile, closed, reading, writing, Ledger, denied, granted, Sought, nowhere, slot, onSought, fileNamed, vacantSlot, busy, attributes, setBlock, setFile, newFile, entryOf, openedToRead, openedToWrite, request}
 use Rattle.met.specs.Relation.{tb, t2, tp, opens, Holds, Reading, Writing, Agrees, Turn, step, step-block}
 use Rattle.met.specs.Quiet.{turned, writes-opens}
 use Rattle.met.specs.Meets.{Meets, meets-unless, meets-when}
-use Rattle.met.specs.Searches.{legal-part, find-is, vacancy-is, in-use-is, lookedUp, seek-found, named-hit, vacant-hit, dead-shut, not-busy, not-written}
+use Rattle.met.specs.Searches.{legal-part, find-is, vacancy-is, in-use-is, attributes-is, lookedUp, seek-found, named-hit, vacant-hit, dead-shut, not-busy, not-written}
 use Rattle.met.specs.Marks.{slot-at, slot-frame, slot-free, slot-spare}
 use Rattle.met.specs.Picture.{entry-is}
 
@@ -150,19 +150,20 @@ module _ (M S : ℕ) (z : Shape M S) (ds : List ℕ) (d : Listing S ds) (img tab
       (λ h. rw (find-is M S z ds d img tab a r (part tab (320 * n + 4) 11)) (go (fileNamed (part tab (320 * n + 4) 11) (a .slots)) refl))
     where
       go : (x : Sought) → fileNamed (part tab (320 * n + 4) 11) (a .slots) ≡ x
-          → Meets M S ds img tab n (onSlot (lookedUp (slotsOf ds) x) 5 4 (λ slot. pick (inUse false tab (placeOf slot)) (refuse 2) (done 0 [] (opened 1 slot (part img slot 24)))))
-          (onSought x (denied 4) (λ s. pick (busy false s (a .blocks) 8) (denied 2) (granted 0 (setBlock a n (reading s 0 0)) (opened 1 ((getD (a .slots) s noFile) .at) (entryOf (getD (a .slots) s noFile))))))
+          → Meets M S ds img tab n (onSlot (lookedUp (slotsOf ds) x) 5 4 (λ slot. pick (readProtected (attributesAt img slot)) (refuse 17) (pick (inUse false tab (placeOf slot)) (refuse 2) (done 0 [] (opened 1 slot (part img slot 24))))))
+          (onSought x (denied 4) (λ s. pick (readProtected (attributes a s)) (denied 17) (pick (busy false s (a .blocks) 8) (denied 2) (granted 0 (setBlock a n (reading s 0 0)) (opened 1 ((getD (a .slots) s noFile) .at) (entryOf (getD (a .slots) s noFile)))))))
       go nowhere e = (refl, omega arith)
       go (slot s) e =
           let q = seek-found (λ x. named x (part tab (320 * n + 4) 11) 0) (a .slots) s e in
           let hs : s < length (slotsOf ds) = omega (arith, q .low, r .ns) in
-          meets-when M S ds img tab n (inUse false tab (placeOf (getD (slotsOf ds) s 0))) (busy false s (a .blocks) 8) 2 _ _ (in-use-is M S z ds d img tab a r false s hs) (omega arith)
-          (λ h. (
+          meets-when M S ds img tab n _ (readProtected (attributes a s)) 17 _ _ (ap readProtected (attributes-is M S z ds d img tab a r s hs)) (omega arith)
+          (λ h17. meets-when M S ds img tab n (inUse false tab (placeOf (getD (slotsOf ds) s 0))) (busy false s (a .blocks) 8) 2 _ _ (in-use-is M S z ds d img tab a r false s hs) (omega arith)
+          (λ h2. (
             refl,
             ap₂ (opened 1) (sym (r .holds s hs .at)) (entry-is M S z ds d img tab a r s hs),
             open-within M S z ds d img tab a r n hn 1 (getD (slotsOf ds) s 0) (part img (getD (slotsOf ds) s 0) 24) (length-part img (getD (slotsOf ds) s 0) 24),
-            open-read s hs (named-hit ((getD (a .slots) s noFile) .name) (part tab (320 * n + 4) 11) (q .hit) .alive) h,
-          ))
+            open-read s hs (named-hit ((getD (a .slots) s noFile) .name) (part tab (320 * n + 4) 11) (q .hit) .alive) h2,
+          )))
 
   -- ---- write
   abbrev nm : List ℕ

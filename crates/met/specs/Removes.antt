@@ -35,7 +35,7 @@ use Rattle.met.specs.Quiet.{turned, shut-writes, idle-kept}
 use Rattle.met.specs.Meets.{Meets, meets-unless, meets-when}
 use Rattle.chains.specs.Walk.{AllData}
 use Rattle.met.specs.Sectors.{free-data, secs-data, secs-once, few, fits, sector-small, sector-data, last-data, index-last, last-small, linked-is}
-use Rattle.met.specs.Searches.{legal-part, find-is, in-use-is, lookedUp, seek-found, named-hit, not-busy, not-open}
+use Rattle.met.specs.Searches.{legal-part, find-is, in-use-is, attributes-is, lookedUp, seek-found, named-hit, not-busy, not-open}
 use Rattle.met.specs.Marks.{slot-low, slot-high, slot-in, length-name, slot-off, slot-at, slot-frame, slot-free, slot-spare, mark-holds, mark-step}
 use Rattle.met.specs.Picture.{joined-pieces, entry-is}
 use Rattle.met.specs.Opens.{legal-live}
@@ -327,10 +327,6 @@ module _ (M S : ℕ) (z : Shape M S) (ds : List ℕ) (d : Listing S ds) (img tab
   abbrev nn : List ℕ
   nn = part tab (320 * n + 53) 11
 
-  attributes-is : (s : ℕ) → s < length (slotsOf ds) → byteAt img (getD (slotsOf ds) s 0 + 11) ≡ attributes a s
-  attributes-is s hs =
-      ap (λ (x : ℕ). getD img x 0) (omega arith) ∙ sym (part-at img (getD (slotsOf ds) s 0 + 11) 2 0 (omega arith)) ∙ ap (λ (x : List ℕ). getD x 0 0) (r .holds s hs .mode)
-
   pub delete-meets : (b : ℕ) → Meets M S ds img tab n (delete img tab M S (320 * n)) (deleted M S a n (request tab (320 * n) b))
   unfolding delete deleted
   delete-meets b =
@@ -350,7 +346,7 @@ module _ (M S : ℕ) (z : Shape M S) (ds : List ℕ) (d : Listing S ds) (img tab
           let q = seek-found (λ x. named x nm 0) (a .slots) s e in
           let hs : s < length (slotsOf ds) = omega (arith, q .low, r .ns) in
           let alive = named-hit ((getD (a .slots) s noFile) .name) nm (q .hit) .alive in
-          let at = attributes-is s hs in
+          let at = attributes-is M S z ds d img tab a r s hs in
           meets-when M S ds img tab n (inUse true tab (placeOf (getD (slotsOf ds) s 0))) (busy true s (a .blocks) 8) 2 _ _ (in-use-is M S z ds d img tab a r true s hs) (omega arith)
           (λ h2. meets-when M S ds img tab n _ (deleteProtected (attributes a s)) 12 _ _ (ap deleteProtected at) (omega arith)
           (λ h12. meets-when M S ds img tab n _ (writeProtected (attributes a s)) 11 _ _ (ap writeProtected at) (omega arith)
@@ -377,7 +373,7 @@ module _ (M S : ℕ) (z : Shape M S) (ds : List ℕ) (d : Listing S ds) (img tab
           let hs : s < length (slotsOf ds) = omega (arith, q .low, r .ns) in
           let alive = named-hit ((getD (a .slots) s noFile) .name) nm (q .hit) .alive in
           meets-when M S ds img tab n (inUse true tab (placeOf (getD (slotsOf ds) s 0))) (busy true s (a .blocks) 8) 2 _ _ (in-use-is M S z ds d img tab a r true s hs) (omega arith)
-          (λ h2. meets-when M S ds img tab n _ (writeProtected (attributes a s)) 11 _ _ (ap writeProtected (attributes-is s hs)) (omega arith)
+          (λ h2. meets-when M S ds img tab n _ (writeProtected (attributes a s)) 11 _ _ (ap writeProtected (attributes-is M S z ds d img tab a r s hs)) (omega arith)
           (λ h11. last s hs alive h2 v y))
         where
           last : (s : ℕ) (hs : s < length (slotsOf ds)) → live ((getD (a .slots) s noFile) .name) 0 ≡ true → busy true s (a .blocks) 8 ≡ false

@@ -10,7 +10,7 @@ use lib.ListN.{length, getD, set}
 use borrow.Author.Tests.{eqb-false, not-true}
 use Rattle.rules.specs.Bytes.{pick, part, same}
 use Rattle.rules.specs.Names.{legal}
-use Rattle.rules.specs.Directory.{slots, slotsOf, neverUsed, deleted, live, scan, named, vacant, find, vacancy, placeOf}
+use Rattle.rules.specs.Directory.{slots, slotsOf, neverUsed, deleted, live, scan, named, vacant, find, vacancy, placeOf, attributesAt}
 use Rattle.rules.specs.Block.{counts, uses, usedBelow, inUse}
 use Rattle.rules.specs.declared.Lookup.{Lookup}
 use Rattle.rules.specs.declared.Lookup.the-variants.{At, Missing}
@@ -19,7 +19,7 @@ use Rattle.laws.specs.Addresses.{Shape}
 use Rattle.laws.specs.Tests.{both}
 use Rattle.chains.specs.Addresses.{absurd-bool}
 use Rattle.chains.specs.Directory.{Listing, directory-is, places-same}
-use Rattle.demands.specs.Ledger.{File, noFile, Block, closed, listing, reading, writing, Ledger, Sought, nowhere, slot, later, seek, fileNamed, vacantSlot, holdsOpen, busy}
+use Rattle.demands.specs.Ledger.{File, noFile, Block, closed, listing, reading, writing, Ledger, Sought, nowhere, slot, later, seek, fileNamed, vacantSlot, holdsOpen, busy, attributes}
 use Rattle.met.specs.Relation.{opens, writes, Keeps, Agrees}
 
 -- ---- bytes of a part
@@ -164,6 +164,9 @@ module _ (M S : ℕ) (z : Shape M S) (ds : List ℕ) (d : Listing S ds) (img tab
       → inUse readers tab (placeOf (getD (slotsOf ds) s 0)) ≡ busy readers s (a .blocks) 8
   unfolding inUse
   in-use-is readers s hs = used-below readers s hs 8 (omega arith)
+
+  pub attributes-is : (s : ℕ) → s < length (slotsOf ds) → attributesAt img (getD (slotsOf ds) s 0) ≡ attributes a s
+  attributes-is s hs = part-head img (getD (slotsOf ds) s 0 + 11) 1 ∙ ap (λ (x : List ℕ). getD x 0 0) (r .holds s hs .mode)
 
   -- a slot that is not live is open nowhere
   pub dead-shut : (n : ℕ) → n < 8 → (s : ℕ) → live ((getD (a .slots) s noFile) .name) 0 ≡ false → opens (getD (a .blocks) n closed) ≢ suc s

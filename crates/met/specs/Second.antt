@@ -10,17 +10,17 @@ use lib.ListN.{length, getD, set, length-set}
 use lib.Seq.{getD-set-same, getD-set-other}
 use lib.Dec.{eqb}
 use borrow.Author.Tests.{eq-eqb, ne-eqb, eqb-true}
-use Rattle.rules.specs.Bytes.{pick, within, wordAt, zeros}
+use Rattle.rules.specs.Bytes.{pick, within, byteAt, wordAt, zeros}
 use Rattle.rules.specs.Names.{legal}
 use Rattle.rules.specs.Directory.{live, directory, slotsOf, sizeAt, vacant}
 use Rattle.rules.specs.Block.{idle}
-use Rattle.rules.specs.Files.{opened as putsOpened}
+use Rattle.rules.specs.Files.{hasAttribute, readProtected, opened as putsOpened}
 use Rattle.rules.specs.Call.{served, fits}
 use Rattle.laws.specs.Tests.{both}
 use Rattle.laws.specs.Addresses.{Shape}
 use Rattle.chains.specs.Chain.{pieces, length-pieces}
 use Rattle.chains.specs.Directory.{Listing}
-use Rattle.demands.specs.Ledger.{Call, setting, extending, asking, File, noFile, Block, closed, listing, reading, writing, Ledger, asks, Fate, denied, granted, reply, nowhere, slot, fileNamed, vacantSlot, holdsOpen, busy, activity, block, file, entryOf, tableOf, setBlock, setFile, withLast, withName, newFile, padTo, openedToRead, openedToWrite, shutBlock, performed, called}
+use Rattle.demands.specs.Ledger.{Call, setting, extending, asking, File, noFile, Block, closed, listing, reading, writing, Ledger, asks, Fate, denied, granted, reply, nowhere, slot, fileNamed, vacantSlot, holdsOpen, busy, activity, block, file, attributes, entryOf, tableOf, setBlock, setFile, withLast, withName, newFile, padTo, openedToRead, openedToWrite, shutBlock, performed, called}
 use Rattle.demands.specs.Service.{flex, Machine, answers, next, entry, run, log}
 use Rattle.demands.specs.History.{then, history, scenes, hits, nameAfter, nameThen, Survives, sentBy, concat, front, content}
 use Rattle.demands.specs.Demands.{Start, begun, lastTrackOf, perTrackOf, told, Asks, Idle, nameOf, rest, counted, ReadBack, Kept, Created, Demand2}
@@ -128,10 +128,15 @@ module _ (M S : ℕ) (z : Shape M S) (ds : List ℕ) (d : Listing S ds) where
         (likewise-asked M S x a n b (asked M S z ds d x a g n b hn))
 
   -- ---- a file at rest is opened for read and read
-  module _ (x : Machine) (a : Ledger) (g : Fine M S ds x a) (s : ℕ) (f : File) (r : Rests a s f) (ok : legal (f .name) 0 ≡ true)
+  module _ (x : Machine) (a : Ledger) (g : Fine M S ds x a) (s : ℕ) (f : File) (r : Rests a s f) (ok : legal (f .name) 0 ≡ true) (new : f .mode ≡ zeros 2)
       (m b : ℕ) (k : Asks a m 1) (i : Idle a m) (nm : nameOf a m ≡ f .name) where
     abbrev a1 : Ledger
     a1 = then M S a (entry flex x (asking m b))
+
+    -- a file that our calls made has no attributes
+    readable : readProtected (attributes a s) ≡ false
+    unfolding hasAttribute zeros
+    readable = ap (λ (y : File). readProtected (byteAt (y .mode) 0)) (r .is) ∙ ap (λ (l : List ℕ). readProtected (byteAt l 0)) new
 
     opened : called M S a m (asks a m b) ≡ granted 0 (setBlock a m (reading s 0 0)) (putsOpened 1 ((file a s) .at) (entryOf (file a s)))
     unfolding performed served within openedToRead
@@ -139,7 +144,7 @@ module _ (M S : ℕ) (z : Shape M S) (ds : List ℕ) (d : Listing S ds) where
         let fd : fileNamed (asks a m b .name) (a .slots) ≡ slot s = ap (λ (y : List ℕ). fileNamed y (a .slots)) nm ∙ found a (g .tidy) s f r in
         let lg : legal (asks a m b .name) 0 ≡ true = ap (λ (y : List ℕ). legal y 0) nm ∙ ok in
         called-of M S a m (asks a m b) 1 (k .function) refl (k .drive) (fits-idle 1 (activity (block a m)) refl i)
-        ∙ (rw (k .function, lg, fd, quiet-free (a .blocks) s 8 (r .quiet)) refl)
+        ∙ (rw (k .function, lg, fd, readable, quiet-free (a .blocks) s 8 (r .quiet)) refl)
 
     pub read-back : ReadBack flex M S x a (concat (f .body)) m b
     read-back =
@@ -188,6 +193,7 @@ module _ (M S : ℕ) (z : Shape M S) (ds : List ℕ) (d : Listing S ds) where
         pub f : File
         pub at-rest : Rests (ledgerBy a φ) s f
         pub name : f .name ≡ nm
+        pub mode : f .mode ≡ zeros 2
         pub bytes : concat (f .body) ≡ sent ++ zeros (rest (length sent))
         pub recs : f .recs ≡ counted 1 ((length sent + 251) / 252)
 
@@ -218,6 +224,7 @@ module _ (M S : ℕ) (z : Shape M S) (ds : List ℕ) (d : Listing S ds) where
                 f = file a s;
                 at-rest = record { is = refl; low = low; alive = alive; quiet = quiet-now };
                 name = w .name;
+                mode = w .mode;
                 recs = w .recs ∙ ap (counted 1) (sym (y .0));
                 bytes = sym (content-none ((file a s) .body) (w .left) e) ∙ w .bytes ∙ sym (ap (λ (k : ℕ). sent ++ zeros k) (y .1) ∙ ap (λ (l : List ℕ). sent ++ l) zeros-none ∙ append-nil sent);
               })
@@ -235,6 +242,7 @@ module _ (M S : ℕ) (z : Shape M S) (ds : List ℕ) (d : Listing S ds) where
                   quiet = quiet-now;
                 };
                 name = w .name;
+                mode = w .mode;
                 recs = w .recs ∙ ap (counted 1) (sym (y .0));
                 bytes = concat-last ((file a s) .body) (padTo 252 (w .left)) (omega (arith, body-length, has-secs))
                     ∙ ap (λ (l : List ℕ). concat (front ((file a s) .body)) ++ l) (pad-is 252 (w .left) (omega (arith, wr .short)))
@@ -264,7 +272,7 @@ module _ (M S : ℕ) (z : Shape M S) (ds : List ℕ) (d : Listing S ds) where
                 let rs2 : Rests (history M S h1 (log flex x1 cs)) s (withName (sh .f) nm′) =
                 subst (λ (y : List ℕ). Rests (history M S h1 (log flex x1 cs)) s (withName (sh .f) y)) fn rs in
                 subst (λ (l : List ℕ). ReadBack flex M S (run flex x1 cs) (history M S h1 (log flex x1 cs)) l m c) (sh .bytes)
-                (read-back (run flex x1 cs) (history M S h1 (log flex x1 cs)) (always M S z ds d cs x1 h1 g1 .0) s (withName (sh .f) nm′) rs2 (legal-then cs x1 h1 g1 nm ok) m c ka i e);
+                (read-back (run flex x1 cs) (history M S h1 (log flex x1 cs)) (always M S z ds d cs x1 h1 g1 .0) s (withName (sh .f) nm′) rs2 (legal-then cs x1 h1 g1 nm ok) (sh .mode) m c ka i e);
           }
 
   -- ---- a new file
@@ -297,6 +305,7 @@ module _ (M S : ℕ) (z : Shape M S) (ds : List ℕ) (d : Listing S ds) where
           left = [];
           writer = getD-set-same (a .blocks) n (writing s []) closed (omega (arith, g .agrees .nb, k .block));
           name = ap (λ (y : File). y .name) sf;
+          mode = ap (λ (y : File). y .mode) sf;
           bytes = ap (λ (y : File). content (y .body) []) sf;
           whole = λ y. sym (ap (λ (y : File). 252 * length (y .secs)) sf);
           part = λ y. absurd (omega arith);

@@ -94,6 +94,7 @@ pub record Wrote (a : Ledger) (n s : ℕ) (nm sent : List ℕ) : Type 0 where
   pub left : List ℕ
   pub writer : block a n ≡ writing s left
   pub name : (file a s) .name ≡ nm
+  pub mode : (file a s) .mode ≡ zeros 2
   pub bytes : content ((file a s) .body) left ≡ sent
   pub whole : length left ≡ 0 → length sent ≡ 252 * length ((file a s) .secs)
   pub part : 1 ≤ length left → length sent + 252 ≡ 252 * length ((file a s) .secs) + length left
@@ -118,6 +119,7 @@ wrote-like a a′ l n s nm sent w =
       left = w .left;
       writer = ap (λ (bs : List Block). getD bs n closed) (l .blocks) ∙ w .writer;
       name = ap (λ (y : File). y .name) k ∙ w .name;
+      mode = ap (λ (y : File). y .mode) k ∙ w .mode;
       bytes = ap (λ (y : File). content (y .body) (w .left)) k ∙ w .bytes;
       whole = λ y. w .whole y ∙ ap (λ (y : File). 252 * length (y .secs)) (sym k);
       part = λ y. w .part y ∙ ap (λ (y : File). 252 * length (y .secs) + length (w .left)) (sym k);
@@ -175,6 +177,7 @@ module _ (M S : ℕ) (z : Shape M S) (ds : List ℕ) (d : Listing S ds) where
           left = q .byte ∷ [];
           writer = set-b (writing s (q .byte ∷ []));
           name = ap (λ (y : File). y .name) sf ∙ w .name;
+          mode = ap (λ (y : File). y .mode) sf ∙ w .mode;
           bytes = ap (λ (y : File). content (y .body) (q .byte ∷ [])) sf ∙ new-bytes k;
           whole = λ y. absurd (omega arith);
           part = λ y. length-sums k (ap (λ (y : File). length (y .secs)) sf);
@@ -217,6 +220,7 @@ module _ (M S : ℕ) (z : Shape M S) (ds : List ℕ) (d : Listing S ds) where
               left = [];
               writer = set-b (writing s []);
               name = ap (λ (y : File). y .name) sf ∙ w .name;
+              mode = ap (λ (y : File). y .mode) sf ∙ w .mode;
               bytes = ap (λ (y : File). content (y .body) []) sf
                   ∙ content-none (setLast ((file a s) .body) (padTo 251 (w .left) ++ q .byte ∷ [])) [] refl
                   ∙ concat-last ((file a s) .body) (padTo 251 (w .left) ++ q .byte ∷ []) (omega (arith, body-length, wr .some h))
@@ -234,6 +238,7 @@ module _ (M S : ℕ) (z : Shape M S) (ds : List ℕ) (d : Listing S ds) where
               left = w .left ++ q .byte ∷ [];
               writer = set-b (writing s (w .left ++ q .byte ∷ []));
               name = w .name;
+              mode = w .mode;
               bytes = content-some ((file a s) .body) (w .left ++ q .byte ∷ []) (omega (arith, length-one-more (w .left) (q .byte)))
                   ∙ sym (append-assoc (concat (front ((file a s) .body))) (w .left) (q .byte ∷ []))
                   ∙ ap (λ (y : List ℕ). y ++ q .byte ∷ []) (sym (content-some ((file a s) .body) (w .left) h) ∙ w .bytes);
@@ -307,6 +312,7 @@ module _ (M S : ℕ) (z : Shape M S) (ds : List ℕ) (d : Listing S ds) where
           left = w .left;
           writer = u .same-block ∙ w .writer;
           name = ap (λ (y : File). y .name) k ∙ w .name;
+          mode = ap (λ (y : File). y .mode) k ∙ w .mode;
           bytes = ap (λ (y : File). content (y .body) (w .left)) k ∙ w .bytes ∙ sym (append-nil sent);
           whole = λ y. ap length (append-nil sent) ∙ w .whole y ∙ ap (λ (y : File). 252 * length (y .secs)) (sym k);
           part = λ y. ap (λ (l : List ℕ). length l + 252) (append-nil sent) ∙ w .part y ∙ ap (λ (y : File). 252 * length (y .secs) + length (w .left)) (sym k);

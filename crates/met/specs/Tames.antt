@@ -16,7 +16,7 @@ use Rattle.rules.specs.Directory.{member, find, vacancy, directoryRight, placeO
 use Rattle.rules.specs.Outcome.{Outcome, done}
 use Rattle.rules.specs.Block.{nameField, indexField, newNameField, bufferField, functionIn, activityIn, driveIn, sizeIn, positionIn, indexIn, nameIn, newNameIn, placeIn, inUse}
 use Rattle.rules.specs.Transfer.{nextToRead, loadPuts, load, reading, slotIn, fresh, linked, takeStores, takePuts, takeFor, takeSector, sent, fill, writing, transfer, shut, mark, closeWriting, close}
-use Rattle.rules.specs.Files.{opened, openRead, newEntry, openWrite, rewind, openDirectory, shown, nextSlot, readSector, writeProtected, deleteProtected, hangStores, gone, remove, delete, rename}
+use Rattle.rules.specs.Files.{opened, openRead, newEntry, openWrite, rewind, openDirectory, shown, nextSlot, readSector, writeProtected, deleteProtected, readProtected, hangStores, gone, remove, delete, rename}
 use Rattle.rules.specs.Call.{served, fits, checked, perform, asked}
 use Rattle.laws.specs.Tests.{either, within-is, pick-all, pick-cases}
 use Rattle.laws.specs.Bytes.{length-one, length-two, length-six, length-part, length-fresh}
@@ -232,7 +232,8 @@ module _ (img tab : List ℕ) (f b : ℕ) (z : Shaped img) where
     open-read-tame =
         pick-all (T 1 act) (legal tab (f + nameField)) _ _
         (onSlot-all (T 1 act) (find img S (nameIn tab f)) 5 4 _ tt tt
-        (λ slot e. pick-all (T 1 act) (inUse false tab (placeOf slot)) _ _ tt (tame-still img tab f 1 act _ refl)))
+        (λ slot e. pick-all (T 1 act) (readProtected (attributesAt img slot)) _ _ tt
+        (pick-all (T 1 act) (inUse false tab (placeOf slot)) _ _ tt (tame-still img tab f 1 act _ refl))))
         tt
 
     new-lands : (slot : ℕ) → lands 2 act (opened 2 slot (newEntry tab f)) ≡ true

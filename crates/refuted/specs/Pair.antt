@@ -1,5 +1,5 @@
--- A start with two files, one write protected, one behind slots that were never used, on five sectors a track; with odd bytes where nobody
--- looks, in image and blocks.
+-- A start with two files, one write protected, one behind slots that were never used, and an empty one that is read protected, on five sectors
+-- a track; with odd bytes where nobody looks, in image and blocks.
 use mathlib.Core.Path.{_≡_, refl}
 use mathlib.Core.Bool.{Bool, true, false}
 use mathlib.Core.List.{List, [], _∷_, _++_}
@@ -30,7 +30,8 @@ txt = 84 ∷ 88 ∷ 84 ∷ []
 dat : List ℕ
 dat = 68 ∷ 65 ∷ 84 ∷ []
 
--- A.TXT, write protected, in sectors 7 and 5; a deleted slot; three that were never used; behind them B.DAT in sector 8; 6 and 9 are free
+-- A.TXT, write protected, in sectors 7 and 5; a deleted slot; three that were never used; behind them B.DAT in sector 8, and G.TXT, read
+-- protected, in none; 6 and 9 are free
 unfoldable pub pairStores : List Store
 unfolding txt dat entry
 pairStores =
@@ -42,6 +43,7 @@ pairStores =
     ∷ store 4 16 (entry 65 txt 128 (1 ∷ 3 ∷ 1 ∷ 1 ∷ 0 ∷ 2 ∷ []) (5 ∷ 6 ∷ 78 ∷ []))
     ∷ store 4 40 (entry 255 dat 0 (1 ∷ 1 ∷ 1 ∷ 1 ∷ 0 ∷ 1 ∷ []) (1 ∷ 1 ∷ 77 ∷ []))
     ∷ store 4 136 (entry 66 dat 0 (1 ∷ 4 ∷ 1 ∷ 4 ∷ 0 ∷ 1 ∷ []) (7 ∷ 8 ∷ 79 ∷ []))
+    ∷ store 4 160 (entry 71 txt 32 (zeros 6) (9 ∷ 9 ∷ 80 ∷ []))
     ∷ store 5 2 (0 ∷ 2 ∷ 20 ∷ 21 ∷ [])
     ∷ store 6 0 (1 ∷ 5 ∷ 9 ∷ 9 ∷ 88 ∷ [])
     ∷ store 7 0 (1 ∷ 1 ∷ 0 ∷ 1 ∷ 10 ∷ 11 ∷ 12 ∷ [])

@@ -1,4 +1,4 @@
--- No fake meets the demands. Each is run on the start with two files, or on odd bytes, and a clause gives an equation of two numbers that
+-- No fake meets the demands. Each is run on the start with two files and an empty one, or on odd bytes, and a clause gives an equation of two numbers that
 -- differ; beside it, that ours passes the same clause at the same point.
 use mathlib.Core.Path.{_≡_, refl, sym, ap, _∙_}
 use mathlib.Core.Bool.{true, false}
@@ -17,8 +17,8 @@ use Rattle.laws.specs.Tests.{never}
 use Rattle.demands.specs.Ledger.{Call, setting, asking, file, entryOf, tableOf, fate, reply}
 use Rattle.demands.specs.Diskette.{ledgerNumbers, ledgerOwners}
 use Rattle.demands.specs.Service.{Service, flex, saysOf, leftOf, ansOf, imgOf, tabOf, answers, gave, next, run}
-use Rattle.demands.specs.Demands.{Lent, surveyAnswer, begun, told, wholly, Demand1, Demand2, Demand3, nameOf, ledgerAfter, ReadBack, Kept, WrittenTo, Created}
-use Rattle.demands.specs.Fakes.{withCall, refusing, deaf, idling, stuck, nodding, eager, counting, inventing, meddling, deleting, misextending, wiping, mislisting, misnoting, scrambling, stingy, swapping, booting, misplacing, stalling, purging, softening, stopping}
+use Rattle.demands.specs.Demands.{Lent, surveyAnswer, begun, told, wholly, Demand1, Demand2, Demand3, ReadBack, Created}
+use Rattle.demands.specs.Fakes.{withCall, refusing, deaf, idling, stuck, nodding, eager, counting, inventing, meddling, deleting, misextending, wiping, mislisting, misnoting, scrambling, stingy, swapping, booting, misplacing, stalling, purging, softening, stopping, heedless, guarding, sealing}
 use Rattle.refuted.specs.All.{demands}
 use Rattle.refuted.specs.Pair.{bDat, bDatAt, gapAt, pairImage, pair, pair-start, paired}
 
@@ -154,33 +154,41 @@ pub eager-ours : sizeAfter (asking 0 0 ∷ []) ≡ 0
 unfolding rules demands paired
 eager-ours = refl
 
--- `reads`: 7 is sent to C.TXT, block 0 closes, block 6 opens and reads
-unfoldable made : List Call
+-- 7 is sent to C.TXT, block 0 closes
+unfoldable pub made : List Call
 made = asking 0 0 ∷ asking 0 7 ∷ setting 0 0 4 ∷ asking 0 0 ∷ []
 
-cTxt : List ℕ
-cTxt = 67 ∷ 0 ∷ 0 ∷ 0 ∷ 0 ∷ 0 ∷ 0 ∷ 0 ∷ 84 ∷ 88 ∷ 84 ∷ []
-
-module _ (d : Demand2 stuck) where
-  stuck-writes : WrittenTo stuck 1 5 (next stuck pair (asking 0 0)) (ledgerAfter stuck 1 5 pair (begun pair) (asking 0 0)) 0 1 (nameOf (begun pair) 0) (asking 0 7 ∷ setting 0 0 4 ∷ [])
-  unfolding rules demands paired
-  stuck-writes = created _ d .writes (asking 0 7 ∷ setting 0 0 4 ∷ []) ((λ q. refl), ((λ q. refl), tt))
-
-  stuck-kept : Kept stuck 1 5 (run stuck pair made) (told stuck pair made) 1 cTxt (7 ∷ [])
-  unfolding rules demands paired made cTxt
-  stuck-kept = stuck-writes .kept 0 (record { block = omega arith; function = refl; drive = refl }) (omega arith)
-
-  stuck-back : ReadBack stuck 1 5 (run stuck pair made) (told stuck pair made) (7 ∷ zeros 251) 6 0
-  unfolding rules demands paired made cTxt
-  stuck-back = stuck-kept .back [] tt 6 0 (record { block = omega arith; function = refl; drive = refl }) refl refl
+-- `reads`: block 6 opens and reads
+stuck-back : Demand2 stuck → ReadBack stuck 1 5 (run stuck pair made) (told stuck pair made) (7 ∷ zeros 251) 6 0
+unfolding rules demands paired made
+stuck-back d =
+    created _ d .writes (asking 0 7 ∷ setting 0 0 4 ∷ []) ((λ q. refl), ((λ q. refl), tt))
+    .kept 0 (record { block = omega arith; function = refl; drive = refl }) (omega arith)
+    .back [] tt 6 0 (record { block = omega arith; function = refl; drive = refl }) refl refl
 
 pub stuck-fails : Demand2 stuck → ⊥
 unfolding rules demands paired made
 stuck-fails d = differ 42 7 refl (stuck-back d .reads (asking 6 0 ∷ []) ((λ q. refl), tt) .0 refl .1)
 
-pub stuck-ours : gave flex (run flex pair (asking 0 0 ∷ asking 0 7 ∷ setting 0 0 4 ∷ asking 0 0 ∷ asking 6 0 ∷ [])) (asking 6 0) ≡ 7
-unfolding rules demands paired
+pub stuck-ours : gave flex (next flex (run flex pair made) (asking 6 0)) (asking 6 0) ≡ 7
+unfolding rules demands paired made
 stuck-ours = refl
+
+-- `opens`, of the reading: block 6 opens
+sealing-back : Demand2 sealing → ReadBack sealing 1 5 (run sealing pair made) (told sealing pair made) (7 ∷ zeros 251) 6 0
+unfolding rules demands paired made
+sealing-back d =
+    created _ d .writes (asking 0 7 ∷ setting 0 0 4 ∷ []) ((λ q. refl), ((λ q. refl), tt))
+    .kept 0 (record { block = omega arith; function = refl; drive = refl }) (omega arith)
+    .back [] tt 6 0 (record { block = omega arith; function = refl; drive = refl }) refl refl
+
+pub sealing-fails : Demand2 sealing → ⊥
+unfolding rules demands paired made
+sealing-fails d = differ 17 0 refl (sealing-back d .opens)
+
+pub sealing-ours : answers flex (run flex pair made) (asking 6 0) ≡ 0
+unfolding rules demands paired made
+sealing-ours = refl
 
 -- `accepts`: D.TXT takes a free sector, the first byte of C.TXT the last one; the second byte needs none
 stingy-made : Demand2 stingy → Created stingy 1 5 (run stingy pair (asking 5 0 ∷ asking 5 8 ∷ [])) (told stingy pair (asking 5 0 ∷ asking 5 8 ∷ [])) 0 2 0
@@ -223,6 +231,26 @@ pub stopping-ours : (neverUsed (pair .img) gapAt ≡ true) × (live (pair .img) 
     × Both (answers flex pair (asking 1 0)) (reply (fate 1 5 (begun pair) (asking 1 0))) 0
 unfolding rules demands paired
 stopping-ours = (refl, refl, (refl, refl))
+
+-- block 6 would read G.TXT, which is read protected; block 7 deletes it
+abbrev answerAfter : Call → Call → ℕ
+answerAfter c e = answers flex (next flex pair c) e
+
+pub heedless-fails : Demand3 heedless → ⊥
+unfolding rules demands paired
+heedless-fails d = differ 0 17 refl (d pair pair-start (setting 6 4 71 ∷ asking 6 0 ∷ []) .answered .2 .0)
+
+pub heedless-ours : answerAfter (setting 6 4 71) (asking 6 0) ≡ 17
+unfolding rules demands paired
+heedless-ours = refl
+
+pub guarding-fails : Demand3 guarding → ⊥
+unfolding rules demands paired
+guarding-fails d = differ 17 0 refl (d pair pair-start (setting 7 4 71 ∷ asking 7 0 ∷ []) .answered .2 .0)
+
+pub guarding-ours : answerAfter (setting 7 4 71) (asking 7 0) ≡ 0
+unfolding rules demands paired
+guarding-ours = refl
 
 -- `accepted`: five sectors; the third, A.TXT's first, is slot 1's
 abbrev numbersIn : Survey → List ℕ

@@ -1,4 +1,4 @@
--- The demands are not empty: a run of 29 calls and 16 presets on the start with two files, its answers, and what each clause of `Sound` finds there.
+-- The demands are not empty: a run of 30 calls and 17 presets on the start with two files and an empty one, its answers, and what each clause of `Sound` finds there.
 use mathlib.Core.Path.{_≡_, refl, ap, _∙_}
 use mathlib.Core.Bool.{Bool, true, false}
 use mathlib.Core.List.{List, [], _∷_, _++_}
@@ -31,12 +31,13 @@ unfoldable pub removed : List Call
 removed =
     setting 2 0 13 ∷ asking 2 0 ∷ asking 2 0 ∷ setting 2 0 12 ∷ asking 2 0 ∷ asking 2 0 ∷ asking 1 0 ∷ setting 5 0 12 ∷ asking 5 0 ∷ []
 
--- block 1 opens A.TXT, reads two bytes, rewinds, reads one; 3 lists two slots; 4 fetches a sector; 6 would close, asks for
--- function 99, for drive 1; 9 is no block
+-- block 1 opens A.TXT, reads two bytes, rewinds, reads one; 3 lists two slots; 4 fetches a sector; 6 would read G.TXT, which is
+-- protected, would close, asks for function 99, for drive 1; 9 is no block
 unfoldable pub looked : List Call
 looked =
     setting 1 4 65 ∷ setting 1 12 0 ∷ extending 1 1 ∷ asking 1 0 ∷ asking 1 0 ∷ asking 1 0 ∷ setting 1 0 5 ∷ asking 1 0 ∷ asking 1 0
     ∷ asking 3 0 ∷ setting 3 0 7 ∷ asking 3 0 ∷ asking 3 0 ∷ asking 4 0
+    ∷ setting 6 4 71 ∷ asking 6 0
     ∷ setting 6 0 4 ∷ asking 6 0 ∷ setting 6 0 99 ∷ asking 6 0 ∷ setting 6 3 1 ∷ setting 6 0 0 ∷ asking 6 0 ∷ asking 9 0 ∷ []
 
 unfoldable pub trial : List Call
@@ -59,6 +60,7 @@ theOutcomes =
     ∷ (0, 0) ∷ (0, 0) ∷ (3, 0) ∷ (0, 0) ∷ (0, 0) ∷ (21, 0) ∷ (4, 0) ∷ (0, 0) ∷ (0, 0)
     ∷ (0, 0) ∷ (0, 0) ∷ (0, 0) ∷ (0, 0) ∷ (0, 10) ∷ (0, 11) ∷ (0, 0) ∷ (0, 0) ∷ (0, 10)
     ∷ (0, 0) ∷ (0, 0) ∷ (0, 0) ∷ (0, 0) ∷ (0, 0)
+    ∷ (0, 0) ∷ (17, 0)
     ∷ (0, 0) ∷ (13, 0) ∷ (0, 0) ∷ (1, 0) ∷ (0, 0) ∷ (0, 0) ∷ (16, 0) ∷ (13, 0) ∷ []
 
 -- ---- what is computed, in one go

@@ -12,6 +12,23 @@ use Rattle.rules.specs.Outcome.{Outcome, done, unless, when, onSlot, onN
 use Rattle.rules.specs.Block.{functionField, activityField, nameField, positionField, indexField, placeField, newNameField, compressionField, bufferField, nameIn, dateIn, positionIn, placeIn, newNameIn, inUse}
 use Rattle.rules.specs.Transfer.{slotIn, linked, mark}
 
+-- ---- what a slot's attributes forbid
+
+-- is this one, a power of two, among them?
+unfoldable pub hasAttribute : ℕ → ℕ → Bool
+hasAttribute wanted attributes = eqb (attributes / wanted % 2) 1
+
+-- "15 attributes (128 write protect, 64 delete protect)"
+abbrev pub writeProtected : ℕ → Bool
+writeProtected attributes = hasAttribute 128 attributes
+
+abbrev pub deleteProtected : ℕ → Bool
+deleteProtected attributes = hasAttribute 64 attributes
+
+-- 02, "Sites want attribute 32 to stop reading."
+abbrev pub readProtected : ℕ → Bool
+readProtected attributes = hasAttribute 32 attributes
+
 -- ---- 1 open read, 2 open write
 
 -- "Both then copy the slot to 4-27, zero 0 and 30-35, set 2, 47-49, and 59 to 255."
@@ -25,13 +42,15 @@ opened act slot entry =
     ∷ put compressionField (one 255)
     ∷ []
 
--- "1 open read: activity 0 or 16; 21, 5, 4, 2 (an FCB of activity 2 has that place)."
+-- "1 open read: activity 0 or 16; 21, 5, 4, 2 (an FCB of activity 2 has that place)." 02, "Open for read gives 17 for such a file, after 4 and
+-- before 2."
 unfoldable pub openRead : List ℕ → List ℕ → ℕ → ℕ → Outcome
 openRead img tab S f =
     unless (legal tab (f + nameField)) 21
     (onSlot (find img S (nameIn tab f)) 5 4 λ slot.
-    when (inUse false tab (placeOf slot)) 2
-    (done 0 [] (opened 1 slot (part img slot 24))))
+    when (readProtected (attributesAt img slot)) 17
+    (when (inUse false tab (placeOf slot)) 2
+    (done 0 [] (opened 1 slot (part img slot 24)))))
 
 -- "gets name and date, all else 0"
 unfoldable pub newEntry : List ℕ → ℕ → List ℕ
@@ -75,13 +94,6 @@ readSector img tab M S f =
     (done 0 [] (put bufferField (part img (256 * index S (positionIn tab f)) 256) ∷ []))
 
 -- ---- 12 delete, 13 rename
-
--- "15 attributes (128 write protect, 64 delete protect)"
-unfoldable pub writeProtected : ℕ → Bool
-writeProtected attributes = eqb (attributes / 128 % 2) 1
-
-unfoldable pub deleteProtected : ℕ → Bool
-deleteProtected attributes = eqb (attributes / 64 % 2) 1
 
 -- "last free's link, or first free if the count is 0, becomes the start, last free the end, and the size is added to the count.
 -- The slot's first byte becomes 255"
