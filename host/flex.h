@@ -28,8 +28,8 @@ extern "C" {
 #endif
 
 /* The version of this header: 10000 * major + 100 * minor + patch, and as text. docs/HOST.md says what each part means. */
-#define FLEX_VERSION 400
-#define FLEX_VERSION_TEXT "0.4.0"
+#define FLEX_VERSION 500
+#define FLEX_VERSION_TEXT "0.5.0"
 
 /* The table: eight control blocks of 320 bytes. All zero means that all are closed. */
 #define FLEX_BLOCKS 8
@@ -43,7 +43,7 @@ extern "C" {
 #define FLEX_DRIVE 3       /* must be 0 */
 #define FLEX_NAME 4        /* 4-11, filled up with zeros; 4-27 are as in the directory's slots */
 #define FLEX_EXTENSION 12  /* 12-14, filled up with zeros */
-#define FLEX_ATTRIBUTES 15 /* 128 write protect, 64 delete protect */
+#define FLEX_ATTRIBUTES 15 /* what the file is protected from */
 #define FLEX_START 17      /* 17-18, track and sector */
 #define FLEX_END 19        /* 19-20, track and sector */
 #define FLEX_SIZE 21       /* 21-22, in sectors, high byte first */
@@ -55,6 +55,11 @@ extern "C" {
 #define FLEX_NEW_NAME 53   /* 53-63: name and extension for a rename. Opening a file sets byte 59 to 255, so preset all
                               eleven before a rename: otherwise it answers 21 */
 #define FLEX_BUFFER 64     /* 64-319: the sector at the position */
+
+/* Attributes. No function sets them: a new file has none. */
+#define FLEX_WRITE_PROTECT 128 /* the file is neither deleted nor renamed: 11 */
+#define FLEX_DELETE_PROTECT 64 /* it is not deleted: 12 */
+#define FLEX_READ_PROTECT 32   /* it is not opened for read: 17 */
 
 /* Function codes. "Idle" is activity 0 or 16. */
 #define FLEX_NEXT_BYTE 0      /* open for read: gives the next byte; open for write: takes one */
@@ -84,6 +89,7 @@ extern "C" {
 #define FLEX_DELETE_PROTECTED 12
 #define FLEX_NO_BLOCK 13         /* table length not 2,560, block number over 7, or close of a closed block */
 #define FLEX_SHAPE 16            /* not the image of a diskette, or drive not 0 */
+#define FLEX_READ_PROTECTED 17
 #define FLEX_UNFIT 18            /* activity unfit for the function, or a preset that is not allowed */
 #define FLEX_BAD_NAME 21         /* name not legal */
 #define FLEX_OUTPUT_LENGTH 40    /* a lent output has the wrong length */

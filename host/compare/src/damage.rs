@@ -66,7 +66,7 @@ impl Scene<'_> {
         let slot = self.any_slot();
         match self.random.below(8) {
             0 => {
-                let attributes = self.random.one_of(&[0, 0, 64, 128, 192, 255]);
+                let attributes = self.random.one_of(&[0, 0, 16, 32, 64, 128, 192, 223, 255]);
                 self.pair.poke_image(slot + 11, &[attributes]);
             }
             1 => {
@@ -93,7 +93,7 @@ impl Scene<'_> {
     /// A live slot, with attributes, addresses and a size of its own.
     fn invent_slot(&mut self, slot: usize) {
         let name = self.legal_name();
-        let attributes = self.random.one_of(&[0, 0, 0, 64, 128, 192]);
+        let attributes = self.random.one_of(&[0, 0, 0, 32, 64, 96, 128, 160, 192, 224]);
         let (start, end, size) = (self.any_address(), self.any_address(), self.any_count());
         self.pair.poke_image(slot, name.bytes());
         self.pair.poke_image(slot + 11, &[attributes]);

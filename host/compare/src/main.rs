@@ -100,7 +100,7 @@ fn whole_run(options: &Options, tally: &mut Tally) -> ExitCode {
         }
         number += 1;
     }
-    println!("answers by function (document 01's order, answer×count):\n{}", tally.answers().trim_end());
+    println!("answers by function (the papers' order, answer×count):\n{}", tally.answers().trim_end());
     if options.all {
         println!("situations:\n{}", tally.situations_text().trim_end());
     }

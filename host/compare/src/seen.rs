@@ -147,7 +147,9 @@ impl Seen {
             last: free(31),
             count: u16::from_be_bytes([count.0, count.1]),
             link_of_first: shape.filter(|_| is_data).map_or(NONE, |shape| address(image, shape.offset(first))),
-            named: shape.filter(|_| block[FUNCTION] >= 12).and_then(|shape| named(image, shape, &block[NAME..][..11])),
+            named: shape
+                .filter(|_| [1, 12, 13].contains(&block[FUNCTION]))
+                .and_then(|shape| named(image, shape, &block[NAME..][..11])),
             own_name: block[NAME..][..11] == block[NEW_NAME..][..11],
             behind_hole: shape.map_or(false, |shape| behind_hole(image, shape, &block[NAME..][..11])),
             new_behind_hole: shape.map_or(false, |shape| behind_hole(image, shape, &block[NEW_NAME..][..11])),
@@ -191,7 +193,11 @@ impl Seen {
         self.position == NONE || self.is_data(self.position)
     }
 
-    /// A delete that got as far as the slot, of this size or any but 0.
+    /// An open for read, a delete or a rename by the name of such a slot.
+    fn opens(&self, met: impl Fn(&Slot) -> bool) -> bool {
+        self.code == 1 && self.named.as_ref().map_or(false, met)
+    }
+
     fn deletes(&self, met: impl Fn(&Slot) -> bool) -> bool {
         self.code == 12 && self.named.as_ref().map_or(false, met)
     }
@@ -317,6 +323,20 @@ pub const CALL_SITUATIONS: &[(&str, Met)] = &[
     ("open read: a closed block has the place", |a| a.before.code == 1 && a.answer == 0 && a.others.contains(&0)),
     ("open read: a directory block has the place", |a| a.before.code == 1 && a.answer == 0 && a.others.contains(&16)),
     ("open read: a name behind a never-used slot", |a| a.before.code == 1 && a.answer == 0 && a.before.behind_hole),
+    ("open read: 17 by attribute 32 alone", |a| a.answer == 17 && a.before.opens(|slot| slot.attributes == 32)),
+    ("open read: 17 with delete protection", |a| a.answer == 17 && a.before.opens(|slot| slot.attributes == 96)),
+    ("open read: 17 with write protection", |a| a.answer == 17 && a.before.opens(|slot| slot.attributes == 160)),
+    ("open read: 17 with both", |a| a.answer == 17 && a.before.opens(|slot| slot.attributes == 224)),
+    ("open read: 17 of a file that is read", |a| a.before.code == 1 && a.answer == 17 && a.others.contains(&1)),
+    ("open read: 17 and not 2 of a file that is written", |a| {
+        a.before.code == 1 && a.answer == 17 && a.others.contains(&2)
+    }),
+    ("open read: 17 from a directory block", |a| a.before.is(1, 16) && a.answer == 17),
+    ("open read: 17 behind a never-used slot", |a| a.before.code == 1 && a.answer == 17 && a.before.behind_hole),
+    ("open read: all attributes but 32 do not matter", |a| {
+        a.answer == 0 && a.before.opens(|slot| slot.attributes == 223)
+    }),
+    ("open read: attribute 16 does not matter", |a| a.answer == 0 && a.before.opens(|slot| slot.attributes == 16)),
     ("open write: 3 for a name behind a never-used slot", |a| {
         a.before.code == 2 && a.answer == 3 && a.before.behind_hole
     }),
@@ -413,6 +433,7 @@ pub const CALL_SITUATIONS: &[(&str, Met)] = &[
         a.answer == 0 && a.before.count > 0 && a.before.deletes(|slot| slot.size > 0 && slot.start == a.before.last)
     }),
     ("delete: both protections give 12", |a| a.answer == 12 && a.before.deletes(|slot| slot.attributes & 192 == 192)),
+    ("delete: read protection does not matter", |a| a.answer == 0 && a.before.deletes(|slot| slot.attributes == 32)),
     ("delete: in use by a reader", |a| a.answer == 2 && a.before.code == 12 && a.others == [1]),
     ("delete: in use by a writer", |a| a.answer == 2 && a.before.code == 12 && a.others == [2]),
     ("delete: a closed block has the place", |a| a.answer == 0 && a.before.deletes(|_| true) && a.others.contains(&0)),
@@ -426,6 +447,7 @@ pub const CALL_SITUATIONS: &[(&str, Met)] = &[
     ("rename: delete protection does not matter", |a| {
         a.answer == 0 && a.before.renames(|slot| slot.attributes & 64 != 0)
     }),
+    ("rename: read protection does not matter", |a| a.answer == 0 && a.before.renames(|slot| slot.attributes == 32)),
     ("rename: of a name behind a never-used slot", |a| a.before.code == 13 && a.answer == 0 && a.before.behind_hole),
     ("rename: 3 for a new name behind a never-used slot", |a| {
         a.before.code == 13 && a.answer == 3 && a.before.new_behind_hole && !a.before.own_name

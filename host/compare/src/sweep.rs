@@ -90,18 +90,23 @@ fn places(tally: &mut Tally) -> Checked<()> {
     Ok(())
 }
 
-/// Every attribute byte, for delete and rename; the file is there again each time.
+/// Every attribute byte, for the functions that look at it, while another block is closed, reads or writes the file; the file is
+/// there again each time.
 fn attributes(tally: &mut Tally) -> Checked<()> {
     let mut pair = small(tally);
     let image = pair.image().to_vec();
+    pair.poke_table(BLOCK + PLACE, &[0, 5, 16]);
     for attributes in 0..=255 {
         for code in [DELETE, RENAME, OPEN_READ] {
-            pair.poke_image(0, &image);
-            pair.poke_image(4 * 256 + 16 + 11, &[attributes]);
-            pair.poke_table(0, &[code, 0, 0, 0]);
-            pair.poke_table(NAME, b"A\0\0\0\0\0\0\0TXT");
-            pair.poke_table(NEW_NAME, b"B\0\0\0\0\0\0\0TXT");
-            pair.call(0, 0)?;
+            for other in [0, 1, 2] {
+                pair.poke_image(0, &image);
+                pair.poke_image(4 * 256 + 16 + 11, &[attributes]);
+                pair.poke_table(BLOCK + ACTIVITY, &[other]);
+                pair.poke_table(0, &[code, 0, 0, 0]);
+                pair.poke_table(NAME, b"A\0\0\0\0\0\0\0TXT");
+                pair.poke_table(NEW_NAME, b"B\0\0\0\0\0\0\0TXT");
+                pair.call(0, 0)?;
+            }
         }
     }
     Ok(())

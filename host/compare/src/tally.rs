@@ -4,7 +4,7 @@ use crate::seen::{After, Surveyed, CALL_SITUATIONS, CENSUS_SITUATIONS};
 use flex::{ACTIVITY, FUNCTION};
 use std::fmt::Write;
 
-/// Each function with every answer that document 01 lets it give, in its order: each must occur, and no other may.
+/// Each function with every answer that documents 01 and 02 let it give, in their order: each must occur, and no other may.
 const EXPECTED: [(&str, &[u32]); 18] = [
     ("preset", &[13, 18, 0]),
     ("default extension", &[13, 0]),
@@ -15,7 +15,7 @@ const EXPECTED: [(&str, &[u32]); 18] = [
     ("0 reading", &[16, 8, 9, 0]),
     ("0 writing", &[16, 5, 10, 7, 0]),
     ("0 neither", &[16, 18]),
-    ("1 open read", &[16, 18, 21, 5, 4, 2, 0]),
+    ("1 open read", &[16, 18, 21, 5, 4, 17, 2, 0]),
     ("2 open write", &[16, 18, 21, 5, 3, 6, 0]),
     ("4 close", &[16, 18, 13, 5, 10, 0]),
     ("5 rewind", &[16, 18, 0]),
@@ -126,9 +126,7 @@ impl Tally {
                 let met = self.answers[row][answer as usize] > 0;
                 match (wanted, met) {
                     (true, false) => faults.push(format!("{}: the answer {} did not occur", name, answer)),
-                    (false, true) => {
-                        faults.push(format!("{}: the answer {} is not one of document 01's", name, answer))
-                    }
+                    (false, true) => faults.push(format!("{}: the answer {} is not one of the papers'", name, answer)),
                     _ => (),
                 }
             }

@@ -16,7 +16,7 @@ const PAST: [usize; 6] = [320, 65536, 1 << 32, (1 << 32) + 4, usize::MAX, usize:
 impl Scene<'_> {
     /// One thing that a host would do.
     pub fn work(&mut self) -> Checked<()> {
-        match self.random.below(34) {
+        match self.random.below(35) {
             0..=5 => self.write_file(),
             6..=8 => self.write_on(),
             9..=12 => self.read_file(),
@@ -32,6 +32,7 @@ impl Scene<'_> {
             29 => self.fiddle(),
             30..=31 => self.any_function(),
             32 => self.leave_holes(),
+            33 => self.protect(),
             _ => self.wrong_lengths(),
         }
     }
@@ -59,6 +60,15 @@ impl Scene<'_> {
             if self.pair.image()[slot] >= 128 && self.random.chance(50) {
                 self.pair.poke_image(slot, &[0; 24]);
             }
+        }
+        Ok(())
+    }
+
+    /// Sites protect files, by means of their own: attributes that no call sets. Mostly none are left, or soon no file could be read.
+    fn protect(&mut self) -> Checked<()> {
+        for slot in self.live_slots() {
+            let attributes = self.random.one_of(&[0, 0, 0, 16, 32, 64, 96, 128, 160, 192, 224]);
+            self.pair.poke_image(slot + 11, &[attributes]);
         }
         Ok(())
     }

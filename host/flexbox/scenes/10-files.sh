@@ -75,19 +75,66 @@ refuses 1 "DISK ERROR #021" rename disk NORTH.TXT -A.TXT
 head -c 100000 /dev/zero >large
 refuses 1 "DISK ERROR #007" put disk LARGE.TXT <large
 
-# ---- protected files: attributes, byte 11 of a slot
-fresh
-patch $(($(slot 2) + 11)) 128
-does list disk
-shows write
+# ---- protected files: attributes, byte 11 of a slot, are letters in the list
+# protected BYTE: NORTH.TXT has these attributes
+protected() {
+    fresh
+    patch $(($(slot 2) + 11)) "$1"
+}
+# letters TEXT: its line in the list ends so, after the date
+letters() {
+    does list disk
+    grep -qE "NORTH.TXT .* [0-9]{2}-[0-9]{2}-[0-9]{2}$1\$" out || fail "not the letters '$1': $(cat out)"
+}
+does get disk NORTH.TXT
+cp out north
+for row in '0:' '16:' '128:  W' '64:  D' '32:  R' '192:  WD' '160:  WR' '96:  DR' '224:  WDR' '255:  WDR'; do
+    protected "${row%%:*}"
+    letters "${row#*:}"
+done
+does list --json disk
+shows '"write_protected":true,"delete_protected":true,"read_protected":true'
+protected 128
 refuses 1 "DISK ERROR #011" delete disk NORTH.TXT
 refuses 1 "DISK ERROR #011" rename disk NORTH.TXT A.TXT
 does get disk NORTH.TXT
-patch $(($(slot 2) + 11)) 192
+protected 192
 refuses 1 "DISK ERROR #012" delete disk NORTH.TXT
-patch $(($(slot 2) + 11)) 64
+protected 64
 refuses 1 "DISK ERROR #012" delete disk NORTH.TXT
 does rename disk NORTH.TXT A.TXT
+
+# ---- a read-protected file is not given, by --force neither, and of several none is; all else goes on as with any file
+protected 32
+refuses 1 "DISK ERROR #017" get disk NORTH.TXT
+says "file is read-protected"
+refuses 1 "DISK ERROR #017" get --force disk NORTH.TXT
+refuses 1 "DISK ERROR #017" get disk SOUTH.TXT=south-too NORTH.TXT=north-too
+[ ! -e south-too ] || fail "a refused get made a file"
+does check disk
+does census disk
+shows "A  NORTH.TXT"
+does rename disk NORTH.TXT WEST.TXT
+refuses 1 "DISK ERROR #017" get disk WEST.TXT
+does delete disk WEST.TXT
+protected 224
+refuses 1 "DISK ERROR #017" get disk NORTH.TXT
+protected 223
+does get disk NORTH.TXT
+cmp out north
+
+# ---- a new file has no protection: where it replaces one that was read-protected, that is said once it is saved
+protected 32
+does put disk NEW.TXT <lines
+warns "NORTH.TXT: the old file was read-protected; the new one is not" put --replace disk NORTH.TXT <lines
+does get --trim disk NORTH.TXT
+cmp out lines
+does put --replace disk NORTH.TXT <lines
+protected 32
+refuses 1 "DISK ERROR #007" put --replace disk NORTH.TXT <large
+! grep -q read-protected err || fail "said of what was not saved: $(cat err)"
+protected 160
+refuses 1 "DISK ERROR #011" put --replace disk NORTH.TXT <lines
 
 # ---- several files, from files and to files; all of them or none
 fresh

@@ -172,10 +172,14 @@ impl Call<'_> {
 
     // Opening.
 
-    /// "21, 5, 4, 2 (an FCB of activity 2 has that place)"
+    /// "21, 5, 4, 2 (an FCB of activity 2 has that place)"; 02, ticket 6: "Sites want attribute 32 to stop reading. Open for read
+    /// gives 17 for such a file, after 4 and before 2."
     fn open_read(&mut self) -> Outcome {
         let name = self.legal_name(NAME)?;
         let slot = directory::find(self.image, &self.slots()?, &name).ok_or(4)?;
+        if self.image[slot + ATTRIBUTES] & 32 != 0 {
+            return Err(17);
+        }
         self.not_in_use(slot, &[WRITE])?;
         self.opened(READ, slot)
     }

@@ -1,4 +1,4 @@
-//! The five entries of the diskette service, written plainly from document 01 and from nothing else.
+//! The five entries of the diskette service, written plainly from documents 01 and 02 and from nothing else.
 //!
 //! Nothing here is proved, and no host program uses it: it is what the proved archive is compared with,
 //! call by call and byte by byte, and the straightforward program that its speed is measured against.

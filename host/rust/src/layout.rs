@@ -26,7 +26,7 @@ pub const DRIVE: usize = 3;
 pub const NAME: usize = 4;
 /// 12-14, filled up with zeros.
 pub const EXTENSION: usize = 12;
-/// 128 write protect, 64 delete protect.
+/// What the file is protected from.
 pub const ATTRIBUTES: usize = 15;
 /// 17-18, track and sector.
 pub const START: usize = 17;
@@ -48,6 +48,15 @@ pub const PLACE: usize = 47;
 pub const NEW_NAME: usize = 53;
 /// 64-319: the sector at the position.
 pub const BUFFER: usize = 64;
+
+// Attributes of a file. No function sets them: a new file has none.
+
+/// It is neither deleted nor renamed.
+pub const WRITE_PROTECT: u8 = 128;
+/// It is not deleted.
+pub const DELETE_PROTECT: u8 = 64;
+/// It is not opened for read.
+pub const READ_PROTECT: u8 = 32;
 
 // The function codes that are served. "Idle" is activity 0 or 16.
 

@@ -36,6 +36,8 @@ pub enum Refusal {
     NoBlock,
     /// 16: the image's shape is wrong, or the drive is not 0.
     Shape,
+    /// 17: the file is read-protected.
+    ReadProtected,
     /// 18: the block's activity does not suit the function, or this byte may not be preset.
     Unfit,
     /// 21: the name is not legal.
@@ -58,8 +60,8 @@ pub enum Refusal {
 
 use Refusal::*;
 
-/// Each number of document 01 with its name here and its meaning in a few words.
-const ALL: [(u8, Refusal, &str); 23] = [
+/// Each number of documents 01 and 02 with its name here and its meaning in a few words.
+const ALL: [(u8, Refusal, &str); 24] = [
     (1, NotServed, "function not served"),
     (2, InUse, "file in use"),
     (3, Exists, "name exists already"),
@@ -74,6 +76,7 @@ const ALL: [(u8, Refusal, &str); 23] = [
     (12, DeleteProtected, "file is delete-protected"),
     (13, NoBlock, "no such control block, or it is closed"),
     (16, Shape, "not the image of a diskette, or drive not 0"),
+    (17, ReadProtected, "file is read-protected"),
     (18, Unfit, "control block not in the right state"),
     (21, BadName, "name not legal"),
     (40, OutputLength, "output has the wrong length"),
@@ -86,7 +89,7 @@ const ALL: [(u8, Refusal, &str); 23] = [
 ];
 
 impl Refusal {
-    /// Document 01's number.
+    /// The papers' number.
     pub fn number(self) -> u8 {
         ALL[self as usize].0
     }
@@ -96,7 +99,7 @@ impl Refusal {
         ALL[self as usize].2
     }
 
-    /// The refusal with this number, if document 01 has it.
+    /// The refusal with this number, if the papers have it.
     pub fn of(number: u32) -> Option<Refusal> {
         ALL.iter().find(|row| row.0 as u32 == number).map(|row| row.1)
     }
@@ -111,11 +114,11 @@ impl fmt::Display for Refusal {
 
 impl std::error::Error for Refusal {}
 
-/// An answer as a result. The archive is proved to answer only with document 01's numbers.
+/// An answer as a result. The archive is proved to answer only with the papers' numbers.
 pub(crate) fn settled(answer: u32) -> Result<(), Refusal> {
     match answer {
         0 => Ok(()),
-        number => Err(Refusal::of(number).unwrap_or_else(|| unreachable!("document 01 has no answer {}", number))),
+        number => Err(Refusal::of(number).unwrap_or_else(|| unreachable!("the papers have no answer {}", number))),
     }
 }
 

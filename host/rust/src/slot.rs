@@ -2,7 +2,9 @@
 
 #![forbid(unsafe_code)]
 
-use crate::layout::{Address, ATTRIBUTES, DATE, END, NAME, PLACE, SIZE, START};
+use crate::layout::{
+    Address, ATTRIBUTES, DATE, DELETE_PROTECT, END, NAME, PLACE, READ_PROTECT, SIZE, START, WRITE_PROTECT,
+};
 use crate::name::Name;
 use std::fmt;
 
@@ -59,6 +61,8 @@ pub struct Entry {
     pub write_protected: bool,
     /// It can't be deleted.
     pub delete_protected: bool,
+    /// It can't be opened for read.
+    pub read_protected: bool,
     /// Month, day, and the last two digits of the year.
     pub date: [u8; 3],
 }
@@ -94,8 +98,9 @@ impl Entry {
             start: Address::at(block, START),
             end: Address::at(block, END),
             sectors: u16::from_be_bytes([block[SIZE], block[SIZE + 1]]),
-            write_protected: block[ATTRIBUTES] & 128 != 0,
-            delete_protected: block[ATTRIBUTES] & 64 != 0,
+            write_protected: block[ATTRIBUTES] & WRITE_PROTECT != 0,
+            delete_protected: block[ATTRIBUTES] & DELETE_PROTECT != 0,
+            read_protected: block[ATTRIBUTES] & READ_PROTECT != 0,
             date: [block[DATE], block[DATE + 1], block[DATE + 2]],
         }
     }

@@ -193,10 +193,29 @@ fn slots_have_all_that_the_directory_says() {
         sectors: 3,
         write_protected: false,
         delete_protected: false,
+        read_protected: false,
         date: TODAY,
     };
     assert_eq!(slots[1].entry(), Some(&expected));
     assert_eq!(patched(&two, 1024, &[0, 4]).slots(), Err(Refusal::Directory));
+}
+
+/// A.TXT with these attributes.
+fn with_attributes(attributes: u8) -> Diskette {
+    patched(&two_files(), 1024 + 16 + 11, &[attributes])
+}
+
+#[test]
+fn attributes_are_shown_and_one_of_them_stops_reading() {
+    for attributes in 0..=255 {
+        let slots = with_attributes(attributes).slots().unwrap();
+        let entry = slots[0].entry().unwrap();
+        let shown = [entry.write_protected, entry.delete_protected, entry.read_protected];
+        assert_eq!(shown, [128, 64, 32].map(|bit| attributes & bit != 0), "{}", attributes);
+        let read = with_attributes(attributes).get(&name("A.TXT")).map(|reading| reading.sectors());
+        let expected = if entry.read_protected { Err(Refusal::ReadProtected) } else { Ok(2) };
+        assert_eq!(read, expected, "{}", attributes);
+    }
 }
 
 #[test]

@@ -25,13 +25,14 @@ fn count(slots: &[Slot], state: State) -> usize {
     slots.iter().filter(|slot| slot.state == state).count()
 }
 
-pub fn protection(entry: &Entry) -> &'static str {
-    match (entry.write_protected, entry.delete_protected) {
-        (true, true) => "write, delete",
-        (true, false) => "write",
-        (false, true) => "delete",
-        (false, false) => "",
-    }
+/// What the file is protected from, as `list` shows it and in words.
+pub fn protections(entry: &Entry) -> Vec<(&'static str, &'static str)> {
+    let all = [
+        (entry.write_protected, ("W", "write")),
+        (entry.delete_protected, ("D", "delete")),
+        (entry.read_protected, ("R", "read")),
+    ];
+    all.into_iter().filter(|row| row.0).map(|row| row.1).collect()
 }
 
 /// The live files, one a line, and how many slots are left.
@@ -54,7 +55,8 @@ fn as_text(slots: &[Slot]) -> String {
 fn line(number: usize, entry: &Entry) -> String {
     let [month, day, year] = entry.date;
     let date = format!("{:02}-{:02}-{:02}", month, day, year);
-    format!("{:4}  {:12}  {:7}  {}  {}", number, entry.name, entry.sectors, date, protection(entry))
+    let letters: String = protections(entry).iter().map(|row| row.0).collect();
+    format!("{:4}  {:12}  {:7}  {}  {}", number, entry.name, entry.sectors, date, letters)
 }
 
 pub fn as_json(words: &Words, slots: &[Slot]) -> String {
@@ -80,6 +82,7 @@ fn file_as_json(slot: &Slot, entry: &Entry) -> String {
         .with("date", json::date(entry.date))
         .with("write_protected", entry.write_protected)
         .with("delete_protected", entry.delete_protected)
+        .with("read_protected", entry.read_protected)
         .end()
 }
 
@@ -97,11 +100,12 @@ mod tests {
             sectors: 1,
             write_protected: true,
             delete_protected: false,
+            read_protected: true,
             date: [7, 4, 81],
         };
         let slot = |number, state| Slot { number, place: Place::default(), state };
         let text = as_text(&[slot(1, State::Live(entry)), slot(2, State::NeverUsed)]);
-        assert!(text.contains("   1  A.TXT               1  07-04-81  write\n"));
+        assert!(text.contains("   1  A.TXT               1  07-04-81  WR\n"));
         assert!(text.ends_with("1 file in 2 slots; 0 deleted, 1 never used\n"));
     }
 }

@@ -13,7 +13,7 @@ pub const COMMANDS: &[Command] = &[
         usage: "[--json] IMAGE",
         summary: "show the directory",
         details: "Shows the live files in the order of their slots: slot, name, size in sectors, date (month-day-year) and\n\
-                  protection, then how many slots are left.\n",
+                  protection (W write, D delete, R read), then how many slots are left.\n",
         operands: (1, 1),
         options: &["--json"],
         run: list::run,
@@ -55,11 +55,12 @@ pub const COMMANDS: &[Command] = &[
         summary: "give the bytes of files",
         details: "Writes a file's bytes to standard output, or to FILE: whole sectors of 252 bytes, with the zeros that fill the\n\
                   last one up. A damaged file is refused: one whose chain is not as its slot states (it runs on into another\n\
-                  file, or ends early), or which shares a sector or its name with another.\n\
+                  file, or ends early), or which shares a sector or its name with another. So is a read-protected one.\n\
                   \x20 --trim     without the zeros at the end (those that were written, too)\n\
                   \x20 --files    each word is a NAME.EXT, which goes to a file of that name in the current folder\n\
                   \x20 --replace  a FILE that is there already is replaced\n\
-                  \x20 --force    gives the bytes of a damaged file, too, with a warning and exit status 1\n",
+                  \x20 --force    gives the bytes of a damaged file, too, with a warning and exit status 1; of a read-protected one\n\
+                  \x20            it gives none\n",
         operands: (2, MANY),
         options: &["--trim", "--files", "--replace", "--force"],
         run: get::run,
@@ -71,7 +72,8 @@ pub const COMMANDS: &[Command] = &[
         details: "Makes a new file of standard input, or of FILE, which must not be empty. Of several files all are made or none.\n\
                   The date is today's by the local time (the variable TZ, or the machine's time zone).\n\
                   \x20 --files    each word is a FILE, and the last part of its path is the name on the diskette\n\
-                  \x20 --replace  a file of that name is replaced; it is lost only once the new one is saved\n\
+                  \x20 --replace  a file of that name is replaced; it is lost only once the new one is saved. A new file has no\n\
+                  \x20            protection: where the old one was read-protected, that is said\n\
                   \x20 --force    changes a damaged diskette, too, and says so; sound files may be lost\n",
         operands: (2, MANY),
         options: &["--files", "--replace", "--force"],

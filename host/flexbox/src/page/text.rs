@@ -3,7 +3,7 @@
 use super::{escaped, Signs};
 use crate::check::{Check, Owner};
 use crate::commands::info::Record;
-use crate::commands::list::protection;
+use crate::commands::list::protections;
 use crate::commands::plural;
 use flex::{Entry, Slot};
 use std::fmt::Write;
@@ -115,6 +115,7 @@ pub fn directory(check: &Check, signs: &Signs) -> String {
 fn line(check: &Check, signs: &Signs, slot: &Slot, entry: &Entry) -> String {
     let owner = Owner::File(slot.number);
     let [month, day, year] = entry.date;
+    let protected: Vec<&str> = protections(entry).iter().map(|row| row.1).collect();
     let state = match check.of_slot(slot.number).count() {
         0 => "<td>sound</td>".to_string(),
         _ => "<td class=\"broken\">damaged</td>".to_string(),
@@ -133,7 +134,7 @@ fn line(check: &Check, signs: &Signs, slot: &Slot, entry: &Entry) -> String {
         month,
         day,
         year,
-        protection(entry),
+        protected.join(", "),
         state
     )
 }
