@@ -10,7 +10,9 @@ use cells::get_in;
 use cells::get2;
 use cells::store;
 
-// Attributes of a slot.
+// Where a slot has its attributes, and what they are.
+const ATTRIBUTES: usize = 11;
+
 const WRITE_PROTECT: u8 = 128;
 
 const DELETE_PROTECT: u8 = 64;
@@ -69,7 +71,7 @@ pub fn entry_at(image: &[u8], slot: u32) -> Entry
     let date = date_at(image, at + 21);
     Entry {
         name,
-        attributes: get(image, at + 11),
+        attributes: get(image, at + ATTRIBUTES),
         byte12: get(image, at + 12),
         start: get2(image, at + 13),
         end: get2(image, at + 15),
@@ -85,7 +87,7 @@ fn has_attribute(image: &[u8], slot: u32, wanted: u8) -> bool
     requires { ⌜ 1 ≤ wanted ⌝ }
     ensures { λ r. ⌜ r ≡ hasAttribute wanted (attributesAt (now (image .entry)) slot) ⌝ }
 {
-    let attributes = get(image, slot as usize + 11);
+    let attributes = get(image, slot as usize + ATTRIBUTES);
     attributes / wanted % 2 == 1
 }
 

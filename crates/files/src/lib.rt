@@ -73,8 +73,8 @@ fn open_block(table: &mut [u8], f: u16, activity: u8, slot: u32)
 fn open_read_at(image: &[u8], table: &mut [u8], f: u16, slot: u32) -> u8
     ensures { λ r. ⌜ out r 0 (now (image .entry)) (now (table .exit)) ≡ left (now (image .entry)) (now (table .entry)) f (settled (openReadAt (now (image .entry)) (now (table .entry)) slot)) ⌝ }
 {
-    let hidden = is_read_protected(image, slot);
-    if hidden {
+    let secret = is_read_protected(image, slot);
+    if secret {
         return refuse(table, f, 17);
     }
     let used = in_use(false, table, slot);

@@ -33,6 +33,8 @@ pub struct Seen {
     named: Option<Slot>,
     /// The new name equals the name.
     own_name: bool,
+    /// Some live slot of track 0 is read protected.
+    any_secret: bool,
     /// A search comes to a never-used slot before a live one of the block's name; of its new name.
     behind_hole: bool,
     new_behind_hole: bool,
@@ -151,6 +153,9 @@ impl Seen {
                 .filter(|_| [1, 12, 13].contains(&block[FUNCTION]))
                 .and_then(|shape| named(image, shape, &block[NAME..][..11])),
             own_name: block[NAME..][..11] == block[NEW_NAME..][..11],
+            any_secret: shape.map_or(false, |shape| {
+                shape.slots().any(|slot| (1..128).contains(&image[slot]) && image[slot + 11] & 32 != 0)
+            }),
             behind_hole: shape.map_or(false, |shape| behind_hole(image, shape, &block[NAME..][..11])),
             new_behind_hole: shape.map_or(false, |shape| behind_hole(image, shape, &block[NEW_NAME..][..11])),
             firsts: shape
@@ -330,6 +335,9 @@ pub const CALL_SITUATIONS: &[(&str, Met)] = &[
     ("open read: 17 of a file that is read", |a| a.before.code == 1 && a.answer == 17 && a.others.contains(&1)),
     ("open read: 17 and not 2 of a file that is written", |a| {
         a.before.code == 1 && a.answer == 17 && a.others.contains(&2)
+    }),
+    ("open read: 4 where another file is read protected", |a| {
+        a.before.code == 1 && a.answer == 4 && a.before.any_secret && a.before.named.is_none()
     }),
     ("open read: 17 from a directory block", |a| a.before.is(1, 16) && a.answer == 17),
     ("open read: 17 behind a never-used slot", |a| a.before.code == 1 && a.answer == 17 && a.before.behind_hole),
