@@ -57,9 +57,9 @@ extern "C" {
 #define FLEX_BUFFER 64     /* 64-319: the sector at the position */
 
 /* Attributes. No function sets them: a new file has none. */
-#define FLEX_WRITE_PROTECT 128 /* the file is neither deleted nor renamed: 11 */
-#define FLEX_DELETE_PROTECT 64 /* it is not deleted: 12 */
-#define FLEX_READ_PROTECT 32   /* it is not opened for read: 17 */
+#define FLEX_ATTRIBUTE_WRITE 128 /* the file is neither deleted nor renamed: 11 */
+#define FLEX_ATTRIBUTE_DELETE 64 /* it is not deleted: 12 */
+#define FLEX_ATTRIBUTE_READ 32   /* it is not opened for read: 17 */
 
 /* Function codes. "Idle" is activity 0 or 16. */
 #define FLEX_NEXT_BYTE 0      /* open for read: gives the next byte; open for write: takes one */
@@ -85,11 +85,11 @@ extern "C" {
 #define FLEX_AT_END 8            /* end of the file or of the directory */
 #define FLEX_BAD_READ 9          /* bad address in reading or deleting */
 #define FLEX_BAD_WRITE 10        /* bad address in writing */
-#define FLEX_WRITE_PROTECTED 11
-#define FLEX_DELETE_PROTECTED 12
+#define FLEX_WRITE_PROTECTED 11  /* the file is not to be deleted or renamed: attribute 128 */
+#define FLEX_DELETE_PROTECTED 12 /* the file is not to be deleted: attribute 64 */
 #define FLEX_NO_BLOCK 13         /* table length not 2,560, block number over 7, or close of a closed block */
 #define FLEX_SHAPE 16            /* not the image of a diskette, or drive not 0 */
-#define FLEX_READ_PROTECTED 17
+#define FLEX_READ_PROTECTED 17   /* the file is not to be opened for read: attribute 32 */
 #define FLEX_UNFIT 18            /* activity unfit for the function, or a preset that is not allowed */
 #define FLEX_BAD_NAME 21         /* name not legal */
 #define FLEX_OUTPUT_LENGTH 40    /* a lent output has the wrong length */

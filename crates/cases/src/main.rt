@@ -1,4 +1,4 @@
-// Runs cases of document 01 through the proved entries. Standard input is a script of at most 65,536 bytes, a command a line; each
+// Runs cases of documents 01 and 02 through the proved entries. Standard input is a script of at most 65,536 bytes, a command a line; each
 // line is written out again with what came of it, so that the output is the script with its answers. The first letter of a line
 // decides, the rest of its first word is for the reader. Numbers are decimal; a missing one is 0. Of bytes that are written out,
 // eight and more equal ones in a row are "byte*count".

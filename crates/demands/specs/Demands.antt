@@ -94,7 +94,7 @@ pub record Demand1 (σ : Service) : Type 0 where
   pub census : (img xs ys : List ℕ) → σ .census img xs ys ≡ flex .census img xs ys
   -- a call of a wrong table or number: nothing at all
   pub none : (img tab : List ℕ) (n b : ℕ) → (Lent tab n → ⊥) → σ .call img tab n b ≡ out 13 0 img tab
-  -- "Numbers given back": one of the stated numbers; the one, and the byte, that 01 has for this call; 16, 1, 16, 18 / 13 before all else
+  -- "Numbers given back": one of the stated numbers; the one, and the byte, that the papers have for this call; 16, 1, 16, 18 / 13 before all else
   pub stated : (img tab : List ℕ) (n b : ℕ) → member (ansOf (σ .call img tab n b)) answerNumbers ≡ true
   pub exact : (img tab : List ℕ) (n b : ℕ) → (ansOf (σ .call img tab n b) ≡ answer (call img tab n b)) × (byteOf (σ .call img tab n b) ≡ given (call img tab n b))
   pub early : (img tab : List ℕ) (n b : ℕ) → Lent tab n → due img tab (320 * n) ≢ 0 → ansOf (σ .call img tab n b) ≡ due img tab (320 * n)

@@ -219,7 +219,7 @@ withAttributes v img Broken = img
 abbrev pub slotOfName : List ℕ → List ℕ → ℕ → Lookup
 slotOfName img tab n = find img (perTrack img) (nameIn tab (320 * n))
 
--- a file of attribute 32 is opened for read as if it had none. "Open for read gives 17 for such a file"
+-- a file of attribute 32 is opened for read as if it had none. "Open for read gives 17 for such a file, after 4 and before 2"
 abbrev pub asOn : List ℕ → Out → Out
 asOn m (out a b img tab) = out a b m tab
 
@@ -232,6 +232,6 @@ abbrev pub guarding : Service
 guarding = withCall (λ img tab n b.
     instead 0 (pick (asksFor 12 tab n) (readProtected (attributesOf img (slotOfName img tab n))) false) (refusal 17 img tab n) (flex .call img tab n b))
 
--- a new file gets attribute 32, so that nobody reads what it lost. "gets name and date, all else 0"
+-- a new file gets attribute 32, so that nobody can see whether the bytes were kept. "gets name and date, all else 0"
 abbrev pub sealing : Service
 sealing = withCall (λ img tab n b. spoilt (asksFor 2 tab n) (λ m. withAttributes 32 m (slotOfName m tab n)) (λ m. m) (flex .call img tab n b))

@@ -253,7 +253,7 @@ withName f nm =
 abbrev pub newFile : ℕ → List ℕ → List ℕ → File
 newFile o nm date = record { at = o; name = nm; mode = zeros 2; ends = zeros 6; date = zeros 2 ++ date; secs = []; recs = []; body = [] }
 
--- ---- the functions, one test a line, in 01's order
+-- ---- the functions, one test a line, in the papers' order
 
 abbrev pub unlessA : Bool → ℕ → Fate → Fate
 unlessA ok e next = pick ok next (denied e)

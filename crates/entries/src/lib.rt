@@ -10,9 +10,23 @@ use cells::get_in;
 use cells::get2;
 use cells::store;
 
-// Where a slot has its attributes, and what they are.
+// Where the parts of a slot stand.
 const ATTRIBUTES: usize = 11;
 
+const START: usize = 13;
+
+const END: usize = 15;
+
+const SIZE: usize = 17;
+
+const DATE: usize = 21;
+
+// Where a block has name and date.
+const BLOCK_NAME: usize = 4;
+
+const BLOCK_DATE: usize = 25;
+
+// Attributes.
 const WRITE_PROTECT: u8 = 128;
 
 const DELETE_PROTECT: u8 = 64;
@@ -68,14 +82,14 @@ pub fn entry_at(image: &[u8], slot: u32) -> Entry
 {
     let at = slot as usize;
     let name = name_at(image, at);
-    let date = date_at(image, at + 21);
+    let date = date_at(image, at + DATE);
     Entry {
         name,
         attributes: get(image, at + ATTRIBUTES),
         byte12: get(image, at + 12),
-        start: get2(image, at + 13),
-        end: get2(image, at + 15),
-        size: get2(image, at + 17),
+        start: get2(image, at + START),
+        end: get2(image, at + END),
+        size: get2(image, at + SIZE),
         byte19: get(image, at + 19),
         byte20: get(image, at + 20),
         date,
@@ -117,8 +131,8 @@ pub fn new_entry(table: &[u8], f: u16) -> Entry
     ensures { λ r. ⌜ r ≡ newOf (now (table .entry)) f ⌝ }
 {
     let at = f as usize;
-    let name = name_at(table, at + 4);
-    let date = date_at(table, at + 25);
+    let name = name_at(table, at + BLOCK_NAME);
+    let date = date_at(table, at + BLOCK_DATE);
     Entry {
         name,
         attributes: 0,

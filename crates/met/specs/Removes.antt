@@ -9,16 +9,16 @@ use native.Mathlib.Decide.{ℕ-discrete}
 use lib.ListN.{length, getD, set, drop, length-append}
 use lib.Dec.{eqb}
 use borrow.Author.Tests.{ne-eqb, eq-eqb, le-ltb}
-use Rattle.rules.specs.Bytes.{pick, byteAt, wordAt, part, one, two, six}
+use Rattle.rules.specs.Bytes.{pick, wordAt, part, one, two, six}
 use Rattle.rules.specs.Stores.{Store, store, stored, Put, put, puts}
 use Rattle.rules.specs.Image.{isData}
 use Rattle.rules.specs.Names.{legal}
-use Rattle.rules.specs.Directory.{slotsOf, live, named, placeOf}
+use Rattle.rules.specs.Directory.{slotsOf, live, named, placeOf, attributesAt}
 use Rattle.rules.specs.Outcome.{refuse, done, onSlot, onNone}
 use Rattle.rules.specs.Block.{inUse}
 use Rattle.rules.specs.Transfer.{mark}
 use Rattle.rules.specs.Files.{writeProtected, deleteProtected, hangStores, gone, remove, delete, rename}
-use Rattle.laws.specs.Bytes.{word-put, part-at, part-is, part-same, length-part, length-one}
+use Rattle.laws.specs.Bytes.{word-put, part-is, part-same, length-part, length-one}
 use Rattle.chains.specs.Tally.{tally-append, apart}
 use Rattle.laws.specs.Addresses.{Shape}
 use Rattle.chains.specs.Addresses.{adr, absurd-bool}
@@ -336,7 +336,7 @@ module _ (M S : ℕ) (z : Shape M S) (ds : List ℕ) (d : Listing S ds) (img tab
       go : (x : Sought) → fileNamed nm (a .slots) ≡ x
           → Meets M S ds img tab n
           (onSlot (lookedUp (slotsOf ds) x) 5 4 (λ slot. pick (inUse true tab (placeOf slot)) (refuse 2)
-          (pick (deleteProtected (byteAt img (slot + 11))) (refuse 12) (pick (writeProtected (byteAt img (slot + 11))) (refuse 11) (remove img M S slot)))))
+          (pick (deleteProtected (attributesAt img slot)) (refuse 12) (pick (writeProtected (attributesAt img slot)) (refuse 11) (remove img M S slot)))))
           (onSought x (denied 4) (λ s. pick (busy true s (a .blocks) 8) (denied 2)
           (pick (deleteProtected (attributes a s)) (denied 12) (pick (writeProtected (attributes a s)) (denied 11)
           (granted 0 (setFree a (a .free ++ (getD (a .slots) s noFile) .secs) (a .spare ++ joined ((getD (a .slots) s noFile) .recs) ((getD (a .slots) s noFile) .body)) s (withMark (getD (a .slots) s noFile)) n (getD (a .blocks) n closed))
@@ -362,7 +362,7 @@ module _ (M S : ℕ) (z : Shape M S) (ds : List ℕ) (d : Listing S ds) (img tab
       go : live nn 0 ≡ true → (x : Sought) → fileNamed nm (a .slots) ≡ x → (y : Sought)
           → Meets M S ds img tab n
           (onSlot (lookedUp (slotsOf ds) x) 5 4 (λ slot. pick (inUse true tab (placeOf slot)) (refuse 2)
-          (pick (writeProtected (byteAt img (slot + 11))) (refuse 11)
+          (pick (writeProtected (attributesAt img slot)) (refuse 11)
           (onNone (lookedUp (slotsOf ds) y) 5 3 (done 0 (store (slot / 256) (slot % 256) nn ∷ []) (put 4 nn ∷ []))))))
           (onSought x (denied 4) (λ s. pick (busy true s (a .blocks) 8) (denied 2)
           (pick (writeProtected (attributes a s)) (denied 11)

@@ -1,5 +1,5 @@
--- A start with two files, one write protected, one behind slots that were never used, and an empty one that is read protected, on five sectors
--- a track; with odd bytes where nobody looks, in image and blocks.
+-- A start with three files, one write protected, one behind slots that were never used, and an empty one that is read protected, on five
+-- sectors a track; with odd bytes where nobody looks, in image and blocks.
 use mathlib.Core.Path.{_≡_, refl}
 use mathlib.Core.Bool.{Bool, true, false}
 use mathlib.Core.List.{List, [], _∷_, _++_}

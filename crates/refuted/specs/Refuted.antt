@@ -1,9 +1,9 @@
--- No fake meets the demands. Each is run on the start with two files and an empty one, or on odd bytes, and a clause gives an equation of two numbers that
--- differ; beside it, that ours passes the same clause at the same point.
+-- No fake meets the demands. Each is run on the start with three files, or on odd bytes, and a clause gives an equation of two numbers
+-- that differ; beside it, that ours passes the same clause at the same point.
 use mathlib.Core.Path.{_≡_, refl, sym, ap, _∙_}
 use mathlib.Core.Bool.{true, false}
 use mathlib.Core.List.{List, [], _∷_}
-use Prim.Native.Nat.{ℕ}
+use Prim.Native.Nat.{ℕ, _+_, _*_}
 use native.Mathlib.Omega.{arith}
 use lib.Dec.{eqb}
 use lib.ListN.{length, getD}
@@ -81,6 +81,18 @@ softening-fails d = differ 4 5 refl (d .exact looped (pair .tab) 1 0 .0)
 pub softening-ours : ansOf (flex .call looped (pair .tab) 1 0) ≡ 5
 unfolding rules paired
 softening-ours = refl
+
+-- and it would read G.TXT, which is read protected, while block 5 writes it: no start leads there
+abbrev writtenTable : List ℕ
+writtenTable = over (over (over (pair .tab) (320 * 5 + 2) (one 2)) (320 * 5 + 47) (0 ∷ 5 ∷ 160 ∷ [])) (320 * 6 + 4) (one 71)
+
+pub heedless-fails-too : Demand1 heedless → ⊥
+unfolding rules paired
+heedless-fails-too d = differ 2 17 refl (d .exact pairImage writtenTable 6 0 .0)
+
+pub heedless-ours-too : ansOf (flex .call pairImage writtenTable 6 0) ≡ 17
+unfolding rules paired
+heedless-ours-too = refl
 
 -- `looking`: block 0 reads, at index 10, where the census gives 42
 abbrev readingTable : List ℕ
@@ -174,7 +186,7 @@ pub stuck-ours : gave flex (next flex (run flex pair made) (asking 6 0)) (asking
 unfolding rules demands paired made
 stuck-ours = refl
 
--- `opens`, of the reading: block 6 opens
+-- `opens`, of the reading: block 6 opens. (The same steps; but what they compute is of the other service.)
 sealing-back : Demand2 sealing → ReadBack sealing 1 5 (run sealing pair made) (told sealing pair made) (7 ∷ zeros 251) 6 0
 unfolding rules demands paired made
 sealing-back d =
@@ -233,24 +245,24 @@ unfolding rules demands paired
 stopping-ours = (refl, refl, (refl, refl))
 
 -- block 6 would read G.TXT, which is read protected; block 7 deletes it
-abbrev answerAfter : Call → Call → ℕ
-answerAfter c e = answers flex (next flex pair c) e
+abbrev AnswerAfter : Call → Call → ℕ → Type 0
+AnswerAfter c e v = Both (answers flex (next flex pair c) e) (reply (fate 1 5 (told flex pair (c ∷ [])) e)) v
 
 pub heedless-fails : Demand3 heedless → ⊥
 unfolding rules demands paired
 heedless-fails d = differ 0 17 refl (d pair pair-start (setting 6 4 71 ∷ asking 6 0 ∷ []) .answered .2 .0)
 
-pub heedless-ours : answerAfter (setting 6 4 71) (asking 6 0) ≡ 17
+pub heedless-ours : AnswerAfter (setting 6 4 71) (asking 6 0) 17
 unfolding rules demands paired
-heedless-ours = refl
+heedless-ours = (refl, refl)
 
 pub guarding-fails : Demand3 guarding → ⊥
 unfolding rules demands paired
 guarding-fails d = differ 17 0 refl (d pair pair-start (setting 7 4 71 ∷ asking 7 0 ∷ []) .answered .2 .0)
 
-pub guarding-ours : answerAfter (setting 7 4 71) (asking 7 0) ≡ 0
+pub guarding-ours : AnswerAfter (setting 7 4 71) (asking 7 0) 0
 unfolding rules demands paired
-guarding-ours = refl
+guarding-ours = (refl, refl)
 
 -- `accepted`: five sectors; the third, A.TXT's first, is slot 1's
 abbrev numbersIn : Survey → List ℕ

@@ -1,4 +1,5 @@
--- The demands are not empty: a run of 30 calls and 17 presets on the start with two files and an empty one, its answers, and what each clause of `Sound` finds there.
+-- The demands are not empty: a run of 30 calls, 16 presets and a default extension on the start with three files, its answers, and what each
+-- clause of `Sound` finds there.
 use mathlib.Core.Path.{_≡_, refl, ap, _∙_}
 use mathlib.Core.Bool.{Bool, true, false}
 use mathlib.Core.List.{List, [], _∷_, _++_}

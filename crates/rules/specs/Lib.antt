@@ -1,4 +1,4 @@
--- Document 01 as executable definitions. docs/RULES.md leads from each of its sentences to the definition.
+-- Documents 01 and 02, as far as its requests are in, as executable definitions. docs/RULES.md leads from each rule to its definition.
 pub mod Bytes
 pub mod Stores
 pub mod Image

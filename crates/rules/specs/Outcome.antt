@@ -12,7 +12,7 @@ pub data Outcome : Type 0 where
   refuse : ℕ → Outcome
   done : ℕ → List Store → List Put → Outcome
 
--- one test a line, in 01's order: refused with e where the test does not hold, or where it does
+-- one test a line, in the papers' order: refused with e where the test does not hold, or where it does
 abbrev pub unless : Bool → ℕ → Outcome → Outcome
 unless ok e next = pick ok next (refuse e)
 

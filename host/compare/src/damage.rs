@@ -1,7 +1,7 @@
 //! Damaged diskettes, random control blocks, and calls aimed at states that a host alone would hardly reach.
 
 use crate::pair::Checked;
-use crate::scene::Scene;
+use crate::scene::{Scene, SLOT_ATTRIBUTES};
 use flex::{
     Steps, ACTIVITY, BLOCK, BLOCKS, BUFFER, CLOSE, DELETE, DRIVE, END, INDEX, NAME, NEW_NAME, NEXT_SLOT, OPEN_READ,
     OPEN_WRITE, PLACE, POSITION, RENAME, SIZE, START,
@@ -67,7 +67,7 @@ impl Scene<'_> {
         match self.random.below(8) {
             0 => {
                 let attributes = self.random.one_of(&[0, 0, 16, 32, 64, 128, 192, 223, 255]);
-                self.pair.poke_image(slot + 11, &[attributes]);
+                self.pair.poke_image(slot + SLOT_ATTRIBUTES, &[attributes]);
             }
             1 => {
                 let first = self.random.one_of(&[0, 1, 127, 128, 255]);
@@ -96,7 +96,7 @@ impl Scene<'_> {
         let attributes = self.random.one_of(&[0, 0, 0, 32, 64, 96, 128, 160, 192, 224]);
         let (start, end, size) = (self.any_address(), self.any_address(), self.any_count());
         self.pair.poke_image(slot, name.bytes());
-        self.pair.poke_image(slot + 11, &[attributes]);
+        self.pair.poke_image(slot + SLOT_ATTRIBUTES, &[attributes]);
         self.set_address(slot + 13, start);
         self.set_address(slot + 15, end);
         self.set_word(slot + 17, size);

@@ -3,7 +3,7 @@
 
 use crate::pair::{Checked, Mismatch, Pair};
 use crate::random::Random;
-use flex::{Name, Steps, ACTIVITY, BLOCK, BLOCKS, FUNCTION, INDEX, NEXT_BYTE};
+use flex::{Name, Steps, ACTIVITY, ATTRIBUTES, BLOCK, BLOCKS, FUNCTION, INDEX, NAME, NEXT_BYTE};
 
 pub type Address = (u8, u8);
 
@@ -41,6 +41,9 @@ const ILLEGAL: [&[u8; 11]; 14] = [
 
 /// Letters and the bytes around their ranges.
 const EDGES: &[u8] = b"\0-/09:@AZ[^_`az{\x7f\x80\xff";
+
+/// Where a slot has its attributes: it stands in a block from the name on.
+pub const SLOT_ATTRIBUTES: usize = ATTRIBUTES - NAME;
 
 /// The activities of a block in which no file is open.
 pub const IDLE: &[u8] = &[0, 16];

@@ -1,7 +1,8 @@
 //! Situations: what the test looks at before and after a call to know that the places that are easy to get wrong were reached.
 //! This says nothing about right or wrong, only about what has been tried.
 
-use flex::{ACTIVITY, BUFFER, FUNCTION, INDEX, NAME, NEW_NAME, PLACE, POSITION, SIZE, START};
+use crate::scene::SLOT_ATTRIBUTES;
+use flex::{ACTIVITY, ATTRIBUTE_READ, BUFFER, FUNCTION, INDEX, NAME, NEW_NAME, PLACE, POSITION, SIZE, START};
 
 type Address = (u8, u8);
 
@@ -154,7 +155,9 @@ impl Seen {
                 .and_then(|shape| named(image, shape, &block[NAME..][..11])),
             own_name: block[NAME..][..11] == block[NEW_NAME..][..11],
             any_secret: shape.map_or(false, |shape| {
-                shape.slots().any(|slot| (1..128).contains(&image[slot]) && image[slot + 11] & 32 != 0)
+                shape
+                    .slots()
+                    .any(|slot| (1..128).contains(&image[slot]) && image[slot + SLOT_ATTRIBUTES] & ATTRIBUTE_READ != 0)
             }),
             behind_hole: shape.map_or(false, |shape| behind_hole(image, shape, &block[NAME..][..11])),
             new_behind_hole: shape.map_or(false, |shape| behind_hole(image, shape, &block[NEW_NAME..][..11])),
@@ -198,15 +201,17 @@ impl Seen {
         self.position == NONE || self.is_data(self.position)
     }
 
-    /// An open for read, a delete or a rename by the name of such a slot.
+    /// An open for read by the name of such a slot.
     fn opens(&self, met: impl Fn(&Slot) -> bool) -> bool {
         self.code == 1 && self.named.as_ref().map_or(false, met)
     }
 
+    /// A delete.
     fn deletes(&self, met: impl Fn(&Slot) -> bool) -> bool {
         self.code == 12 && self.named.as_ref().map_or(false, met)
     }
 
+    /// A rename.
     fn renames(&self, met: impl Fn(&Slot) -> bool) -> bool {
         self.code == 13 && self.named.as_ref().map_or(false, met)
     }
@@ -225,7 +230,7 @@ fn named(image: &[u8], shape: Shape, name: &[u8]) -> Option<Slot> {
     let slot = shape.slots().find(|&slot| image[slot..slot + 11] == *name)?;
     Some(Slot {
         place: place(slot),
-        attributes: image[slot + 11],
+        attributes: image[slot + SLOT_ATTRIBUTES],
         start: address(image, slot + 13),
         end: address(image, slot + 15),
         size: word(image, slot + 17),

@@ -4,7 +4,7 @@
 
 use crate::pair::{Checked, Pair};
 use crate::random::Random;
-use crate::scene::Scene;
+use crate::scene::{Scene, SLOT_ATTRIBUTES};
 use crate::tally::Tally;
 use flex::{
     Steps, ACTIVITY, BLOCK, CLOSE, DELETE, EXTENSION, INDEX, NAME, NEW_NAME, NEXT_BYTE, NEXT_SLOT, OPEN_DIRECTORY,
@@ -100,7 +100,7 @@ fn attributes(tally: &mut Tally) -> Checked<()> {
         for code in [DELETE, RENAME, OPEN_READ] {
             for other in [0, 1, 2] {
                 pair.poke_image(0, &image);
-                pair.poke_image(4 * 256 + 16 + 11, &[attributes]);
+                pair.poke_image(4 * 256 + 16 + SLOT_ATTRIBUTES, &[attributes]);
                 pair.poke_table(BLOCK + ACTIVITY, &[other]);
                 pair.poke_table(0, &[code, 0, 0, 0]);
                 pair.poke_table(NAME, b"A\0\0\0\0\0\0\0TXT");

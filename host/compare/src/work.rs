@@ -1,7 +1,7 @@
 //! What a host does: files written, read, deleted and renamed, the directory walked, and calls with wrong lengths and numbers.
 
 use crate::pair::Checked;
-use crate::scene::{Scene, IDLE};
+use crate::scene::{Scene, IDLE, SLOT_ATTRIBUTES};
 use flex::{
     Steps, BLOCK, BLOCKS, CLOSE, DELETE, DRIVE, EXTENSION, NAME, NEW_NAME, NEXT_SLOT, OPEN_DIRECTORY, OPEN_WRITE,
     POSITION, READ_SECTOR, RENAME, REWIND, TABLE,
@@ -68,7 +68,7 @@ impl Scene<'_> {
     fn protect(&mut self) -> Checked<()> {
         for slot in self.live_slots() {
             let attributes = self.random.one_of(&[0, 0, 0, 16, 32, 64, 96, 128, 160, 192, 224]);
-            self.pair.poke_image(slot + 11, &[attributes]);
+            self.pair.poke_image(slot + SLOT_ATTRIBUTES, &[attributes]);
         }
         Ok(())
     }

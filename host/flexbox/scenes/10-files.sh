@@ -104,7 +104,7 @@ protected 64
 refuses 1 "DISK ERROR #012" delete disk NORTH.TXT
 does rename disk NORTH.TXT A.TXT
 
-# ---- a read-protected file is not given, by --force neither, and of several none is; all else goes on as with any file
+# ---- a read-protected file is not given, with --force neither, and of several none is; all else goes on as with any file
 protected 32
 refuses 1 "DISK ERROR #017" get disk NORTH.TXT
 says "file is read-protected"

@@ -21,6 +21,13 @@ refuses 3 "nowhere" report nowhere
 head -c 1000 disk >short
 refuses 1 "DISK ERROR #016" report short
 
+# ---- what files are protected from is told in words
+patch $(($(slot 2) + 11)) 224
+patch $(($(slot 3) + 11)) 32
+does report disk
+shows "<td>write, delete, read</td>"
+shows "<td>read</td>"
+
 # marked: the sectors that the page in 'out' marks as damaged
 marked() {
     awk 'match($0, /id="c-[0-9]+-[0-9]+"/) { at = substr($0, RSTART + 6, RLENGTH - 7) } /class="damage"/ { print at }' out |

@@ -1,6 +1,6 @@
 //! The FMS call and its ten functions.
 //!
-//! A function tests in 01's order and stores only after its last test, so that an `Err` has changed nothing.
+//! A function tests in the papers' order and stores only after its last test, so that an `Err` has changed nothing.
 
 use crate::block_at;
 use crate::directory::{self, ATTRIBUTES, DATE, END, SIZE, SLOT, START};

@@ -52,11 +52,11 @@ pub const BUFFER: usize = 64;
 // Attributes of a file. No function sets them: a new file has none.
 
 /// It is neither deleted nor renamed.
-pub const WRITE_PROTECT: u8 = 128;
+pub const ATTRIBUTE_WRITE: u8 = 128;
 /// It is not deleted.
-pub const DELETE_PROTECT: u8 = 64;
+pub const ATTRIBUTE_DELETE: u8 = 64;
 /// It is not opened for read.
-pub const READ_PROTECT: u8 = 32;
+pub const ATTRIBUTE_READ: u8 = 32;
 
 // The function codes that are served. "Idle" is activity 0 or 16.
 

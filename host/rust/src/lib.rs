@@ -1,7 +1,7 @@
 //! Safe calls of the proved diskette service, `libflex.a`.
 //!
 //! The service works on two lent buffers: the image of a diskette, and a table of eight control blocks of 320 bytes. All of
-//! its state is in these two; it keeps none of its own. Document 01 says what each entry does to every byte of them, for all
+//! its state is in these two; it keeps none of its own. docs/RULES.md says what each entry does to every byte of them, for all
 //! inputs, and that is proved; [`Refusal`] has the numbers that it gives back.
 //!
 //! [`Diskette`] holds the two buffers and does the file work:

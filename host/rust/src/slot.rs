@@ -3,7 +3,7 @@
 #![forbid(unsafe_code)]
 
 use crate::layout::{
-    Address, ATTRIBUTES, DATE, DELETE_PROTECT, END, NAME, PLACE, READ_PROTECT, SIZE, START, WRITE_PROTECT,
+    Address, ATTRIBUTES, ATTRIBUTE_DELETE, ATTRIBUTE_READ, ATTRIBUTE_WRITE, DATE, END, NAME, PLACE, SIZE, START,
 };
 use crate::name::Name;
 use std::fmt;
@@ -98,9 +98,9 @@ impl Entry {
             start: Address::at(block, START),
             end: Address::at(block, END),
             sectors: u16::from_be_bytes([block[SIZE], block[SIZE + 1]]),
-            write_protected: block[ATTRIBUTES] & WRITE_PROTECT != 0,
-            delete_protected: block[ATTRIBUTES] & DELETE_PROTECT != 0,
-            read_protected: block[ATTRIBUTES] & READ_PROTECT != 0,
+            write_protected: block[ATTRIBUTES] & ATTRIBUTE_WRITE != 0,
+            delete_protected: block[ATTRIBUTES] & ATTRIBUTE_DELETE != 0,
+            read_protected: block[ATTRIBUTES] & ATTRIBUTE_READ != 0,
             date: [block[DATE], block[DATE + 1], block[DATE + 2]],
         }
     }

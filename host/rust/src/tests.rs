@@ -202,7 +202,7 @@ fn slots_have_all_that_the_directory_says() {
 
 /// A.TXT with these attributes.
 fn with_attributes(attributes: u8) -> Diskette {
-    patched(&two_files(), 1024 + 16 + 11, &[attributes])
+    patched(&two_files(), 1024 + 16 + (ATTRIBUTES - NAME), &[attributes])
 }
 
 #[test]
@@ -211,7 +211,12 @@ fn attributes_are_shown_and_one_of_them_stops_reading() {
         let slots = with_attributes(attributes).slots().unwrap();
         let entry = slots[0].entry().unwrap();
         let shown = [entry.write_protected, entry.delete_protected, entry.read_protected];
-        assert_eq!(shown, [128, 64, 32].map(|bit| attributes & bit != 0), "{}", attributes);
+        assert_eq!(
+            shown,
+            [ATTRIBUTE_WRITE, ATTRIBUTE_DELETE, ATTRIBUTE_READ].map(|bit| attributes & bit != 0),
+            "{}",
+            attributes
+        );
         let read = with_attributes(attributes).get(&name("A.TXT")).map(|reading| reading.sectors());
         let expected = if entry.read_protected { Err(Refusal::ReadProtected) } else { Ok(2) };
         assert_eq!(read, expected, "{}", attributes);

@@ -6,7 +6,7 @@ use super::refused;
 use crate::failure::{note, Failure};
 use crate::input;
 use crate::words::Words;
-use flex::{Diskette, Refusal, ATTRIBUTES, READ_PROTECT};
+use flex::{Diskette, Refusal, ATTRIBUTES, ATTRIBUTE_READ};
 
 /// What is to be written is read first, so that nothing is asked of the service, and nobody waits for the image's lock,
 /// where there is nothing to write: a file that is closed unwritten is no file.
@@ -43,7 +43,7 @@ fn contents(piece: &Piece) -> Result<Vec<u8>, Failure> {
 /// read-protected, by the slot that a delete leaves in the block.
 fn make_room(diskette: &mut Diskette, piece: &Piece) -> Result<bool, Refusal> {
     match diskette.delete(&piece.name) {
-        Ok(()) => Ok(diskette.block(0)[ATTRIBUTES] & READ_PROTECT != 0),
+        Ok(()) => Ok(diskette.block(0)[ATTRIBUTES] & ATTRIBUTE_READ != 0),
         Err(Refusal::NotFound) => Ok(false),
         Err(refusal) => Err(refusal),
     }
