@@ -20,21 +20,12 @@ static void fail(const char *what) {
     exit(1);
 }
 
-/* All sectors of track 1 in the free chain, one directory sector at (0, 5): docs/HOST.md, "From a blank image to a census". */
+/* A label, the volume number 1 and a date. No block may be open on the image; here all are closed, as the table is zero. */
 static void make_blank(void) {
-    uint8_t *information = image + 2 * 256;
-    int s;
-    for (s = 1; s < PER; s++) {
-        image[(PER + s - 1) * 256] = 1;
-        image[(PER + s - 1) * 256 + 1] = (uint8_t)(s + 1);
+    static const uint8_t label[11] = "ALARMS";
+    if (flex_format(image, sizeof image, LAST, PER, label, sizeof label, 1, 11, 15, 82) != FLEX_DONE) {
+        fail("format was refused");
     }
-    information[29] = 1;
-    information[30] = 1;
-    information[31] = 1;
-    information[32] = PER;
-    information[34] = PER;
-    information[38] = LAST;
-    information[39] = PER;
 }
 
 /* The answer of one function on block 0. */

@@ -12,10 +12,11 @@
  * Nothing else: every length, number and content is allowed, and a wrong one is refused with a number.
  *
  * A refused flex_call changes nothing but byte 1 of its control block, which gets the number; where there is no such block
- * (13) nothing at all. A refused flex_preset, flex_extension or flex_error_text changes nothing. flex_census says it below.
+ * (13) nothing at all. A refused flex_preset, flex_extension, flex_error_text or flex_format changes nothing. flex_census says
+ * it below.
  *
  * Link: cc -I host program.c target/staticlib/libflex.a
- * A census takes less than 12,000 bytes of stack, a call less than 1,000. docs/HOST.md has all that a host needs.
+ * A census takes less than 12,000 bytes of stack, a call or a format less than 1,000. docs/HOST.md has the rest.
  */
 #ifndef FLEX_H
 #define FLEX_H
@@ -28,8 +29,8 @@ extern "C" {
 #endif
 
 /* The version of this header: 10000 * major + 100 * minor + patch, and as text. docs/HOST.md says what each part means. */
-#define FLEX_VERSION 500
-#define FLEX_VERSION_TEXT "0.5.0"
+#define FLEX_VERSION 600
+#define FLEX_VERSION_TEXT "0.6.0"
 
 /* The table: eight control blocks of 320 bytes. All zero means that all are closed. */
 #define FLEX_BLOCKS 8
@@ -92,8 +93,8 @@ extern "C" {
 #define FLEX_READ_PROTECTED 17   /* the file is not to be opened for read: attribute 32 */
 #define FLEX_UNFIT 18            /* activity unfit for the function, or a preset that is not allowed */
 #define FLEX_BAD_NAME 21         /* name not legal */
-#define FLEX_OUTPUT_LENGTH 40    /* a lent output has the wrong length */
-#define FLEX_CENSUS_SHAPE 41     /* not the image of a diskette */
+#define FLEX_OUTPUT_LENGTH 40    /* a lent output, or an image or label to format, has the wrong length */
+#define FLEX_CENSUS_SHAPE 41     /* not the image of a diskette; to format: no such shape */
 #define FLEX_CENSUS_DIRECTORY 42 /* directory not right */
 #define FLEX_CENSUS_NAMES 43     /* two files of one name */
 #define FLEX_CENSUS_FREE 44      /* free chain not right */
@@ -133,6 +134,16 @@ uint32_t flex_census(const uint8_t *image, size_t image_len, uint8_t *sectors, s
  * Writes "DISK ERROR #" and the number in three digits, 15 bytes and no terminating zero. Answers 0, or 40 under 15 bytes.
  */
 uint32_t flex_error_text(uint8_t *text, size_t text_len, uint8_t number);
+
+/*
+ * Fills the image with a blank diskette of the tracks 0 to last_track with per_track sectors each: nothing of what it held is
+ * left. All data sectors are free, in rising order; the directory has all of (0, 5) to (0, per_track). Label, volume number
+ * and date may be anything. Answers 41 unless last_track is 1 to 79 and per_track 5 to 36; then 40 unless the image has
+ * (last_track + 1) * per_track * 256 bytes and the label eleven; these change nothing. Else 0. No control block may be open
+ * on the image before: flex_format does not see the table.
+ */
+uint32_t flex_format(uint8_t *image, size_t image_len, size_t last_track, size_t per_track, const uint8_t *label,
+                     size_t label_len, uint16_t volume, uint8_t month, uint8_t day, uint8_t year);
 
 #ifdef __cplusplus
 }

@@ -2,11 +2,12 @@
  * Preloaded under flexbox by the scenes that need to see its system calls, or to come between two of them.
  *
  * Each call on a file is a line in the file that WITNESS_LOG names: open, or make with the mode, lock or share, read, and those
- * that put an image in place: write, sync, rename. Of these last, the WITNESS_STOP-th ends the process before it is made, as a cut of power would;
- * the WITNESS_FAIL-th is not made, but fails.
+ * that put an image in place: write, sync, rename, move (a rename that replaces nothing), link, remove. Of these last, the
+ * WITNESS_STOP-th ends the process before it is made, as a cut of power would; the WITNESS_FAIL-th is not made, but fails.
  *
- * WITNESS_AT_OPEN and WITNESS_AT_LOCK hold renames, "FROM TO FROM TO ..", which another program makes just before the first file is
- * opened, or the first lock asked for. With WITNESS_NO_LOCKS the file system has no locks.
+ * WITNESS_AT_OPEN, WITNESS_AT_LOCK and WITNESS_AT_MOVE hold renames, "FROM TO FROM TO ..", which another program makes just before
+ * the first file is opened, the first lock asked for, or the first file moved. With WITNESS_NO_LOCKS the file system has no locks,
+ * with WITNESS_NO_MOVES no rename that replaces nothing.
  */
 #define _GNU_SOURCE
 #include <dlfcn.h>
@@ -25,6 +26,9 @@ typedef ssize_t (*read_call)(int, void *, size_t);
 typedef ssize_t (*write_call)(int, const void *, size_t);
 typedef int (*sync_call)(int);
 typedef int (*rename_call)(const char *, const char *);
+typedef int (*move_call)(int, const char *, int, const char *, unsigned int);
+typedef int (*link_call)(int, const char *, int, const char *, int);
+typedef int (*remove_call)(const char *);
 
 static int calls;
 
@@ -150,4 +154,33 @@ int rename(const char *from, const char *to) {
         return -1;
     }
     return ((rename_call)dlsym(RTLD_NEXT, "rename"))(from, to);
+}
+
+int renameat2(int from_folder, const char *from, int to_folder, const char *to, unsigned int flags) {
+    meanwhile("WITNESS_AT_MOVE");
+    if (noted(flags & RENAME_NOREPLACE ? "move" : "rename", to)) {
+        errno = EIO;
+        return -1;
+    }
+    if (number("WITNESS_NO_MOVES")) {
+        errno = EINVAL;
+        return -1;
+    }
+    return ((move_call)dlsym(RTLD_NEXT, "renameat2"))(from_folder, from, to_folder, to, flags);
+}
+
+int linkat(int from_folder, const char *from, int to_folder, const char *to, int flags) {
+    if (noted("link", to)) {
+        errno = EIO;
+        return -1;
+    }
+    return ((link_call)dlsym(RTLD_NEXT, "linkat"))(from_folder, from, to_folder, to, flags);
+}
+
+int unlink(const char *path) {
+    if (noted("remove", path)) {
+        errno = EIO;
+        return -1;
+    }
+    return ((remove_call)dlsym(RTLD_NEXT, "unlink"))(path);
 }

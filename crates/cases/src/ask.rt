@@ -166,3 +166,24 @@ pub fn text(line: &[u8]) {
     let mut dots = [46u8; 32];
     tell_in(&mut dots, number(line, 0), byte(line, 1));
 }
+
+// What is lent of the image formatted, with a label of the first n bytes of some, or of all of them.
+fn shape_in(image: &mut [u8], line: &[u8], letters: &mut [u8], n: u32) {
+    let k = io::count(n as isize, letters);
+    let answer = format::format(
+        image,
+        number(line, 0) as usize,
+        number(line, 1) as usize,
+        &letters[..k],
+        (number(line, 3) % 65536) as u16,
+        byte(line, 4),
+        byte(line, 5),
+        byte(line, 6),
+    );
+    say::answer(answer);
+}
+
+pub fn shape(image: &mut [u8], line: &[u8]) {
+    let mut letters = *b"ABCDEFGHIJKLMNOPQRSTUVWXYZABCDEF";
+    shape_in(image, line, &mut letters, number(line, 2));
+}

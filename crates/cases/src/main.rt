@@ -4,7 +4,7 @@
 // eight and more equal ones in a row are "byte*count".
 //
 //   # text             a heading
-//   fresh              the empty five-sector diskette (M = 1, S = 5, free 1,1 to 1,5), closed blocks, both lent whole
+//   fresh              the blank five-sector diskette (M = 1, S = 5, free 1,1 to 1,5), closed blocks, both lent whole
 //   lend I T           from here on the first I bytes of the image and the first T of the table are lent
 //   name B NAME.EXT    presets the eleven bytes of the name in block B        -> the last answer
 //   as B NAME.EXT      presets the eleven bytes of the new name               -> the last answer
@@ -13,7 +13,9 @@
 //   call B F V         presets the function F, then calls with the byte V     -> the function, its answer and its byte
 //   write B N V        N times function 0 with the byte V, till refused       -> how many were accepted, the last answer
 //   read B N           N times function 0, till refused                       -> the bytes, the last answer
-//   diff               what the last of these seven commands changed (but for the function it preset), a line for each run of bytes
+//   shape M S L V D D D  formats what is lent of the image: last track, sectors per track, a label of L bytes, at most 32, A to Z
+//                      and on, the volume number, month, day and year                                -> the answer
+//   diff               what the last of these eight commands changed (but for the function it preset), a line for each run of bytes
 //   map N K            the census into outputs of N and K entries, 7 before   -> the answer and the count, then pairs "sector owner"
 //   text L N           the error text of N into L bytes, dots before          -> the answer and the bytes
 //   image O N          N bytes of the image from O on                         -> the bytes
@@ -25,8 +27,6 @@ ghost use lib.ListN.{length};
 use cells::clear;
 use cells::copy;
 use cells::get;
-use cells::put2;
-use cells::store;
 use line::byte;
 use line::find;
 use line::number;
@@ -43,15 +43,11 @@ struct Lent {
     table: u32,
 }
 
-// The empty five-sector diskette: the free chain's addresses and count, M and S, the links of the free sectors.
-fn format(image: &mut [u8]) {
+// The blank five-sector diskette, with no label, number or date; zeros behind it.
+fn fresh(image: &mut [u8]) {
     clear(image, 0, image.len());
-    store(image, 541, &[1, 1, 1, 5, 0, 5]);
-    store(image, 550, &[1, 5]);
-    put2(image, 1280, 258);
-    put2(image, 1536, 259);
-    put2(image, 1792, 260);
-    put2(image, 2048, 261);
+    let n = io::count(2560, image);
+    format::format(&mut image[..n], 1, 5, &[0u8; 11], 0, 0, 0, 0);
 }
 
 // The function that a call, a write or a read is about to call.
@@ -66,7 +62,7 @@ fn choose(letter: u8, table: &mut [u8], line: &[u8]) {
 // Does the command ask the service for something that may change the buffers?
 fn is_asking(letter: u8) -> bool {
     match letter {
-        b'n' | b'a' | b'p' | b'e' | b'c' | b'w' | b'r' => true,
+        b'n' | b'a' | b'p' | b'e' | b'c' | b'w' | b'r' | b's' => true,
         _ => false,
     }
 }
@@ -90,6 +86,7 @@ fn command(letter: u8, image: &mut [u8], table: &mut [u8], line: &[u8]) {
         b'c' => ask::call(image, table, line),
         b'w' => ask::write(image, table, line),
         b'r' => ask::read(image, table, line),
+        b's' => ask::shape(image, line),
         b't' => ask::text(line),
         b'm' => map::map(image, number(line, 0), number(line, 1)),
         b'i' => look::image(image, line),
@@ -124,7 +121,7 @@ fn run_line(
     let letter = get(line, 0);
     match letter {
         b'f' => {
-            format(image);
+            fresh(image);
             clear(table, 0, table.len());
             return Lent {
                 image: 2560,

@@ -25,7 +25,7 @@ pub adr-zero : (S : ℕ) → adr S 0 ≡ 0
 unfolding adr
 adr-zero S = refl
 
-adr-is : (S x : ℕ) → 1 ≤ x → adr S x ≡ addressOf S x
+pub adr-is : (S x : ℕ) → 1 ≤ x → adr S x ≡ addressOf S x
 unfolding adr
 adr-is S zero h = absurd (omega arith)
 adr-is S (suc y) h = refl

@@ -8,3 +8,4 @@ pub mod Moves
 pub mod Directory
 pub mod Frame
 pub mod Walk
+pub mod Blank

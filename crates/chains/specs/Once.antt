@@ -5,7 +5,7 @@ use Prim.Native.Nat.{ℕ, zero, suc, _+_, _≤_, _<_}
 use native.Mathlib.Omega.{arith}
 use lib.ListN.{length}
 use Rattle.chains.specs.Tally.{tally, eq1, eq1-same, eq1-ne, tally-head}
-use native.Mathlib.Decide.{ℕ-discrete}
+use native.Mathlib.Decide.{ℕ-discrete, decLt}
 
 -- each number from lo up to, not including, hi stands once in l, and no other does
 pub record Once (lo hi : ℕ) (l : List ℕ) : Type 0 where
@@ -73,3 +73,43 @@ sum-ones lo (suc d) l f = omega (arith, f (lo + d) (omega arith) (omega arith), 
 
 pub once-length : (lo d : ℕ) (l : List ℕ) → Once lo (lo + d) l → length l ≡ d
 once-length lo d l o = sym (sum-length lo d l (λ x h. (o .low x h, o .high x h))) ∙ sum-ones lo d l (o .inside)
+
+-- ---- a range, written out
+
+-- n numbers from lo on
+abbrev pub rising : ℕ → ℕ → List ℕ
+rising lo zero = []
+rising lo (suc n) = lo ∷ rising (suc lo) n
+
+pub length-rising : (lo n : ℕ) → length (rising lo n) ≡ n
+length-rising lo zero = refl
+length-rising lo (suc n) = ap suc (length-rising (suc lo) n)
+
+rising-out : (lo n x : ℕ) → (lo ≤ x → x < lo + n → ⊥) → tally x (rising lo n) ≡ 0
+rising-out lo zero x h = refl
+rising-out lo (suc n) x h =
+    omega (arith, eq1-ne x lo (λ e. h (omega arith) (omega arith)), rising-out (suc lo) n x (λ a b. h (omega arith) (omega arith)))
+
+rising-in : (lo n x : ℕ) → lo ≤ x → x < lo + n → tally x (rising lo n) ≡ 1
+rising-in lo zero x a b = absurd (omega arith)
+rising-in lo (suc n) x a b = go (ℕ-discrete x lo) (λ c. rising-in (suc lo) n x c (omega arith))
+  where
+    go : Dec (x ≡ lo) → (suc lo ≤ x → tally x (rising (suc lo) n) ≡ 1) → tally x (lo ∷ rising (suc lo) n) ≡ 1
+    go (yes e) ih = omega (arith, ap (λ (y : ℕ). eq1 x y) (sym e) ∙ eq1-same x, rising-out (suc lo) n x (λ c d. omega arith))
+    go (no e) ih = omega (arith, eq1-ne x lo e, ih (omega arith))
+
+pub rising-once : (lo n : ℕ) → Once lo (lo + n) (rising lo n)
+rising-once lo n =
+    record {
+      inside = λ x a b. rising-in lo n x a b;
+      low = λ x h. go (decLt x lo) (λ k. omega (arith, rising-out lo n x (λ a b. omega arith)));
+      high = λ x h. past (decLt x (lo + n)) (λ k. omega (arith, rising-out lo n x (λ a b. k b)));
+    }
+  where
+    go : {x : ℕ} → Dec (x < lo) → (x < lo → ⊥) → lo ≤ x
+    go (yes e) f = absurd (f e)
+    go (no e) f = omega arith
+
+    past : {x : ℕ} → Dec (x < lo + n) → ((x < lo + n → ⊥) → ⊥) → x < lo + n
+    past (yes e) f = e
+    past (no e) f = absurd (f e)

@@ -10,7 +10,7 @@ use Rattle.rules.specs.Bytes.{pick, within, byteAt, part, over, one, two, zeros
 use Rattle.rules.specs.Image.{lastTrack, perTrack, index, isSector, firstFree, lastFree}
 use Rattle.rules.specs.Names.{legal}
 use Rattle.rules.specs.Directory.{live, slots, sizeAt, member, find, vacancy}
-use Rattle.rules.specs.Outcome.{done, answer, given, settled, out}
+use Rattle.rules.specs.Outcome.{done, answer, given, settled, out, saysOf, leftOf}
 use Rattle.rules.specs.Block.{functionIn, activityIn, nameIn, positionIn, idle}
 use Rattle.rules.specs.Transfer.{slotIn}
 use Rattle.rules.specs.declared.Lookup.{Lookup}
@@ -18,12 +18,15 @@ use Rattle.rules.specs.declared.Lookup.the-variants.{At, Missing, Broken}
 use Rattle.rules.specs.Call.{checked, call}
 use Rattle.rules.specs.Census.{Survey, survey, census, tally}
 use Rattle.laws.specs.Small.{Small}
+use Rattle.laws.specs.Addresses.{Shape}
 use Rattle.laws.specs.Effects.{answerNumbers}
+use Rattle.laws.specs.Blank.{formatNumbers}
+use Rattle.chains.specs.Once.{rising}
 use Rattle.chains.specs.Chain.{pieces}
 use Rattle.chains.specs.Walk.{chainAt}
 use Rattle.demands.specs.Ledger.{Call, asking, listing, Ledger, file, block, asks, activity, entryOf, imageOf, tableOf, nowhere, slot, fileNamed, vacantSlot}
 use Rattle.demands.specs.Diskette.{ledgerOf, ledgerNumbers, ledgerOwners}
-use Rattle.demands.specs.Service.{Service, flex, ansOf, byteOf, imgOf, tabOf, Machine, answers, gave, next, entry, run, log}
+use Rattle.demands.specs.Service.{Wanted, Service, flex, ansOf, byteOf, imgOf, tabOf, Machine, answers, gave, next, entry, run, log}
 use Rattle.demands.specs.History.{Scene, then, history, scenes, Told, Only, nameThen, Survives, Unnamed, sentBy, Accepts, Reads, shown, filesOn, ahead}
 
 -- ---- DEMAND 1: for any bytes of image and table
@@ -87,11 +90,15 @@ named img tab f code p =
     (member (p / 256) (sectorsNamed img tab f code))
 
 pub record Demand1 (σ : Service) : Type 0 where
-  -- these four have no past: what 01 says of them is an equation
+  -- these five have no past: what 01 and 02 say of them is an equation
   pub preset : (tab : List ℕ) (n i v : ℕ) → σ .preset tab n i v ≡ flex .preset tab n i v
   pub extension : (tab : List ℕ) (n c : ℕ) → σ .extension tab n c ≡ flex .extension tab n c
   pub text : (m : List ℕ) (e : ℕ) → σ .text m e ≡ flex .text m e
   pub census : (img xs ys : List ℕ) → σ .census img xs ys ≡ flex .census img xs ys
+  pub format : (img : List ℕ) (w : Wanted) → σ .format img w ≡ flex .format img w
+  -- so format has three numbers, and its refusal changes nothing
+  pub format-stated : (img : List ℕ) (w : Wanted) → member (saysOf (σ .format img w)) formatNumbers ≡ true
+  pub format-refused : (img : List ℕ) (w : Wanted) → saysOf (σ .format img w) ≢ 0 → leftOf (σ .format img w) ≡ img
   -- a call of a wrong table or number: nothing at all
   pub none : (img tab : List ℕ) (n b : ℕ) → (Lent tab n → ⊥) → σ .call img tab n b ≡ out 13 0 img tab
   -- "Numbers given back": one of the stated numbers; the one, and the byte, that the papers have for this call; 16, 1, 16, 18 / 13 before all else
@@ -129,13 +136,34 @@ perTrackOf x = perTrack (x .img)
 abbrev pub dataSectors : List ℕ → ℕ
 dataSectors img = lastTrack img * perTrack img
 
--- "From an image that the census accepts", every byte below 256, and a table whose blocks are closed, whatever else they hold. Control blocks that
--- are all zero are such blocks
+-- every block is closed, whatever else it holds. Control blocks that are all zero are such blocks
+abbrev pub Closed : List ℕ → Type 0
+Closed tab = (n : ℕ) → n < 8 → activityIn tab (320 * n) ≡ 0
+
+-- "From an image that the census accepts", every byte below 256, and a table whose blocks are closed
 pub record Start (x : Machine) : Type 0 where
   pub accepted : surveyAnswer (census (x .img) (zeros (dataSectors (x .img))) (zeros (dataSectors (x .img)))) ≡ 0
   pub bytes : Small (x .img)
   pub table : length (x .tab) ≡ 2560
-  pub closed : (n : ℕ) → n < 8 → activityIn (x .tab) (320 * n) ≡ 0
+  pub closed : Closed (x .tab)
+
+-- label and date are bytes
+pub record Typed (w : Wanted) : Type 0 where
+  pub label : Small (w .label)
+  pub month : w .month < 256
+  pub day : w .day < 256
+  pub year : w .year < 256
+
+-- 02: "they speak again from the blank one, with no control block open on it"; "The census must accept every blank diskette, with the numbers in
+-- rising order": what an accepted format leaves is a start, with any table whose blocks are closed; its census lists 0, 1, 2, .., all free
+pub record FromBlank (σ : Service) : Type 0 where
+  -- what 02 does not refuse is accepted
+  pub accepts : (img : List ℕ) (w : Wanted) → Shape (w .last) (w .per) → length img ≡ (w .last + 1) * w .per * 256 → length (w .label) ≡ 11
+      → saysOf (σ .format img w) ≡ 0
+  pub begins : (img : List ℕ) (w : Wanted) (tab : List ℕ) → saysOf (σ .format img w) ≡ 0 → Typed w → length tab ≡ 2560 → Closed tab
+      → Start (record { img = leftOf (σ .format img w); tab = tab })
+  pub lists : (img : List ℕ) (w : Wanted) (xs ys : List ℕ) → saysOf (σ .format img w) ≡ 0 → length xs ≡ w .last * w .per → length ys ≡ w .last * w .per
+      → σ .census (leftOf (σ .format img w)) xs ys ≡ survey 0 (rising 0 (w .last * w .per)) (zeros (w .last * w .per))
 
 -- the history's ledger of the start; what it has after these calls, and each of them with what it had before: folds over the log
 abbrev pub begun : Machine → Ledger

@@ -2,29 +2,39 @@
 -- and `idling`, which do nothing at all; in quotes, words of 01 or 02 that it breaks. That they fail is proved in crate `refuted`.
 use mathlib.Core.Bool.{Bool, true, false, not}
 use mathlib.Core.List.{List, [], _∷_}
-use Prim.Native.Nat.{ℕ, zero, suc, _+_, _*_}
+use Prim.Native.Nat.{ℕ, zero, suc, _+_, _-_, _*_}
 use lib.ListN.{length}
 use lib.Dec.{eqb, ltb}
-use Rattle.rules.specs.Bytes.{pick, byteAt, wordAt, part, over, one, zeros}
+use Rattle.rules.specs.Bytes.{pick, byteAt, wordAt, part, over, one, two, zeros}
 use Rattle.rules.specs.Image.{shapeRight, perTrack, freeCount}
 use Rattle.rules.specs.Directory.{slots, neverUsed, named, find, attributesAt}
-use Rattle.rules.specs.Outcome.{Out, out}
+use Rattle.rules.specs.Outcome.{Out, out, Told as Reply, told as replied, saysOf, leftOf}
 use Rattle.rules.specs.Block.{functionIn, activityIn, nameIn}
 use Rattle.rules.specs.Files.{readProtected}
 use Rattle.rules.specs.Census.{Survey, survey}
 use Rattle.rules.specs.declared.Lookup.{Lookup}
 use Rattle.rules.specs.declared.Lookup.the-variants.{At, Missing, Broken}
-use Rattle.rules.specs.Text.{told as replied}
-use Rattle.demands.specs.Service.{Service, flex, leftOf}
+use Rattle.chains.specs.Once.{rising}
+use Rattle.demands.specs.Service.{Wanted, Service, flex}
 
 -- ---- ours, changed
 
--- another call; another census
+-- another call; another census; another format
 abbrev pub withCall : (List ℕ → List ℕ → ℕ → ℕ → Out) → Service
-withCall f = record { preset = flex .preset; extension = flex .extension; call = f; census = flex .census; text = flex .text }
+withCall f = record { preset = flex .preset; extension = flex .extension; call = f; census = flex .census; text = flex .text; format = flex .format }
 
 abbrev pub withCensus : (Survey → Survey) → Service
-withCensus f = record { preset = flex .preset; extension = flex .extension; call = flex .call; census = λ img xs ys. f (flex .census img xs ys); text = flex .text }
+withCensus f = record {
+  preset = flex .preset;
+  extension = flex .extension;
+  call = flex .call;
+  census = λ img xs ys. f (flex .census img xs ys);
+  text = flex .text;
+  format = flex .format;
+}
+
+abbrev pub withFormat : (List ℕ → Wanted → Reply) → Service
+withFormat f = record { preset = flex .preset; extension = flex .extension; call = flex .call; census = flex .census; text = flex .text; format = f }
 
 -- block n asks for this function; it asks for function 0, and its activity is 1 (it reads) or 2 (it writes)
 abbrev pub asksFor : ℕ → List ℕ → ℕ → Bool
@@ -61,6 +71,7 @@ refusing = record {
   call = λ img tab n b. refusal 18 img tab n;
   census = λ img xs ys. survey 41 xs ys;
   text = λ m e. replied 40 m;
+  format = λ img w. replied 41 img;
 }
 
 -- every call is refused, and no more. "the first deleted or never-used slot in order gets name and date"
@@ -75,6 +86,7 @@ idling = record {
   call = λ img tab n b. out 0 0 img tab;
   census = flex .census;
   text = flex .text;
+  format = flex .format;
 }
 
 -- one fixed byte on every read. "Returns the buffer byte at the index"
@@ -107,10 +119,6 @@ abbrev pub counting : Service
 counting = withCensus fewer
 
 -- a census with an invented list: all sectors in rising order, all free. "the listed sector's owner"
-abbrev pub rising : ℕ → ℕ → List ℕ
-rising from zero = []
-rising from (suc n) = from ∷ rising (suc from) n
-
 abbrev pub allFree : Survey → Survey
 allFree (survey a xs ys) = pick (eqb a 0) (survey a (rising 0 (length xs)) (zeros (length ys))) (survey a xs ys)
 
@@ -135,6 +143,7 @@ misextending = record {
   call = flex .call;
   census = flex .census;
   text = flex .text;
+  format = flex .format;
 }
 
 -- where the shape is wrong, image and table are wiped and 0 is answered. "16 image shape wrong"
@@ -235,3 +244,27 @@ guarding = withCall (λ img tab n b.
 -- a new file gets attribute 32, so that nobody can see whether the bytes were kept. "gets name and date, all else 0"
 abbrev pub sealing : Service
 sealing = withCall (λ img tab n b. spoilt (asksFor 2 tab n) (λ m. withAttributes 32 m (slotOfName m tab n)) (λ m. m) (flex .call img tab n b))
+
+-- a format that leaves what the data sectors held: only links, record numbers and track 0 are new. "other bytes not named are zero"
+unfoldable pub dataLeft : List ℕ → List ℕ → ℕ → ℕ → List ℕ
+dataLeft old new k zero = new
+dataLeft old new k (suc n) = over (dataLeft old new (suc k) n) (256 * k + 4) (part old (256 * k + 4) 252)
+
+abbrev pub replyWith : (List ℕ → List ℕ) → Reply → Reply
+replyWith f (replied a m) = replied a (pick (eqb a 0) (f m) m)
+
+abbrev pub hasty : Service
+hasty = withFormat (λ img w. replyWith (λ new. dataLeft img new (w .per) (w .last * w .per)) (flex .format img w))
+
+-- a format that counts one sector too few. "The census must accept every blank diskette"
+abbrev pub hoarding : Service
+hoarding = withFormat (λ img w. replyWith (λ new. over new 545 (two (w .last * w .per - 1))) (flex .format img w))
+
+-- a format that clears the image before it looks at the lengths. "then a wrong image or label length 40, both without a change"
+abbrev pub rash : Service
+rash = withFormat (λ img w. pick (eqb (saysOf (flex .format img w)) 40) (replied 40 (zeros (length img))) (flex .format img w))
+
+-- a format whose free chain does not rise: 1,2 comes before 1,1. The census accepts it. "with the numbers in rising order"
+abbrev pub interleaving : Service
+interleaving = withFormat (λ img w.
+    replyWith (λ new. over (over (over new 541 (1 ∷ 2 ∷ [])) (256 * w .per) (1 ∷ 3 ∷ [])) (256 * (w .per + 1)) (1 ∷ 1 ∷ [])) (flex .format img w))

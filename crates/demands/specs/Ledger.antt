@@ -8,7 +8,7 @@ use lib.Dec.{eqb, ltb}
 use Rattle.rules.specs.Bytes.{pick, byteAt, wordAt, part, one, two, six, zeros}
 use Rattle.rules.specs.Stores.{Store, store, stored, Put, put, puts}
 use Rattle.rules.specs.Outcome.{Effect, answer, onBlock}
-use Rattle.rules.specs.Image.{index, isSector, infoSector}
+use Rattle.rules.specs.Image.{index, isSector, infoSector, infoFirst}
 use Rattle.rules.specs.Names.{legal}
 use Rattle.rules.specs.Directory.{named, vacant, placeOf}
 use Rattle.rules.specs.Block.{functionField, activityField, driveField, nameField, dateField, positionField, recordField, indexField, placeField, newNameField, bufferField, presetIn, extensionIn}
@@ -110,7 +110,7 @@ freeRecord S ks = six (adr S (first ks 0)) (adr S (lastOf ks 0)) (length ks)
 
 -- THE IMAGE: the start's, with the information record's 29-34, the free sectors, the slots and their files stored into it
 unfoldable pub imageOf : ℕ → Ledger → List ℕ
-imageOf S a = stored (a .base) (store infoSector 29 (freeRecord S (a .free)) ∷ (chainStores S (a .free) (a .spare) ++ fileStores S (a .slots)))
+imageOf S a = stored (a .base) (store infoSector infoFirst (freeRecord S (a .free)) ∷ (chainStores S (a .free) (a .spare) ++ fileStores S (a .slots)))
 
 -- THE TABLE: the blocks' bytes
 abbrev pub tableOf : Ledger → List ℕ

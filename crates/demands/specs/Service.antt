@@ -1,29 +1,34 @@
--- A service: its five entries as functions on lists. Ours, by the rules. Lists of calls, and the log that they leave.
+-- A service: its six entries as functions on lists. Ours, by the rules. Lists of calls, and the log that they leave.
 use mathlib.Core.List.{List, [], _∷_}
 use Prim.Native.Nat.{ℕ}
 use Rattle.rules.specs.Stores.{stored, puts}
-use Rattle.rules.specs.Outcome.{Effect, answer, given, onImage, onBlock, Out, out}
+use Rattle.rules.specs.Outcome.{Effect, answer, given, onImage, onBlock, Out, out, Told as Reply, told as replied, saysOf, leftOf}
 use Rattle.rules.specs.Block.{blockAt, extension as extensionRule, preset as presetRule}
 use Rattle.rules.specs.Call.{call as callRule}
 use Rattle.rules.specs.Census.{Survey, census as censusRule}
-use Rattle.rules.specs.Text.{Told as Reply, told as replied, errorText}
+use Rattle.rules.specs.Text.{errorText}
+use Rattle.rules.specs.Format.{format as formatRule}
 use Rattle.demands.specs.Ledger.{Call, setting, extending, asking}
 
--- what is replied: an answer, and the lent table or text afterwards
-abbrev pub saysOf : Reply → ℕ
-saysOf (replied a m) = a
-
-abbrev pub leftOf : Reply → List ℕ
-leftOf (replied a m) = m
+-- what a blank diskette is to be like: last track, sectors per track, label, volume number, date
+pub record Wanted : Type 0 where
+  pub last : ℕ
+  pub per : ℕ
+  pub label : List ℕ
+  pub volume : ℕ
+  pub month : ℕ
+  pub day : ℕ
+  pub year : ℕ
 
 -- preset (table, block, offset, value), default extension (table, block, code), the call (image, table, block, byte), the census (image, two
--- outputs), the error text (lent bytes, number)
+-- outputs), the error text (lent bytes, number), format (image, the diskette wanted)
 pub record Service : Type 0 where
   pub preset : List ℕ → ℕ → ℕ → ℕ → Reply
   pub extension : List ℕ → ℕ → ℕ → Reply
   pub call : List ℕ → List ℕ → ℕ → ℕ → Out
   pub census : List ℕ → List ℕ → List ℕ → Survey
   pub text : List ℕ → ℕ → Reply
+  pub format : List ℕ → Wanted → Reply
 
 abbrev pub settledOn : List ℕ → ℕ → Effect → Reply
 settledOn tab n e = replied (answer e) (puts tab (blockAt n) (onBlock e))
@@ -39,6 +44,7 @@ flex = record {
   call = λ img tab n b. leaves img tab n (callRule img tab n b);
   census = λ img xs ys. censusRule img xs ys;
   text = λ m e. errorText m e;
+  format = λ img w. formatRule img (w .last) (w .per) (w .label) (w .volume) (w .month) (w .day) (w .year);
 }
 
 -- ---- what a call leaves

@@ -1,17 +1,17 @@
 -- Products of bytes fit; the shape from its numbers; a link that may be absent; data stored in a sector's own part of the image.
 use mathlib.Core.Path.{_≡_, refl, ap, _∙_}
-use mathlib.Core.Bool.{Bool, true, false}
+use mathlib.Core.Bool.{Bool, true, false, not}
 use mathlib.Core.List.{List}
 use Prim.Native.Nat.{ℕ, _+_, _-_, _*_, _≤_, _<_}
 use native.Mathlib.Nat.{mul-le-mul}
 use native.Mathlib.Omega.{arith}
 use borrow.Rule.Slice.PartMut.{midOf, putMid}
 use lib.ListN.{length, getD}
-use lib.Dec.{eqb}
-use borrow.Author.Tests.{le-leb, lt-leb}
+use lib.Dec.{eqb, leb}
+use borrow.Author.Tests.{le-leb, lt-leb, not-true, not-false}
 use Rattle.rules.specs.Bytes.{within, part, over, two}
 use Rattle.rules.specs.Stores.{stored}
-use Rattle.rules.specs.Image.{shapeRight}
+use Rattle.rules.specs.Image.{withinLimits, shapeRight}
 use Rattle.rules.specs.Transfer.{linked}
 use Rattle.laws.specs.Bytes.{length-part}
 use Rattle.laws.specs.Lent.{over-within}
@@ -21,34 +21,38 @@ use Rattle.disk.specs.declared.Shaped.the-variants.{Right, Wrong}
 pub product : (x y : ℕ) → x ≤ 256 → y ≤ 255 → x * y ≤ 65280
 product x y h k = mul-le-mul h k
 
--- the shape's tests in their order: each limit that is broken, then the length
+-- the limits' tests in their order
+pub no-track : (M S : ℕ) → M < 1 → false ≡ withinLimits M S
+unfolding withinLimits within
+no-track M S h = rw (lt-leb 1 M h) refl
+
+module _ (M S : ℕ) (a : 1 ≤ M) where
+  pub many-tracks : 79 < M → false ≡ withinLimits M S
+  unfolding withinLimits within
+  many-tracks h = rw (le-leb 1 M a, lt-leb M 79 h) refl
+
+  module _ (b : M ≤ 79) where
+    pub few-sectors : S < 5 → false ≡ withinLimits M S
+    unfolding withinLimits within
+    few-sectors h = rw (le-leb 1 M a, le-leb M 79 b, lt-leb 5 S h) refl
+
+    pub by-sectors : 5 ≤ S → leb S 36 ≡ withinLimits M S
+    unfolding withinLimits within
+    by-sectors h = rw (le-leb 1 M a, le-leb M 79 b, le-leb 5 S h) refl
+
+-- the shape's: the least length, the limits, the length
 pub too-short : (n M S : ℕ) → n < 552 → false ≡ isShape n M S
 unfolding isShape
 too-short n M S h = rw (lt-leb 552 n h) refl
 
-module _ (n M S : ℕ) (a : 552 ≤ n) where
-  pub no-track : M < 1 → false ≡ isShape n M S
-  unfolding isShape within
-  no-track h = rw (le-leb 552 n a, lt-leb 1 M h) refl
+module _ (n M S : ℕ) (a : 552 ≤ n) {r : Bool} (e : r ≡ withinLimits M S) where
+  pub past-limits : not r ≡ true → false ≡ isShape n M S
+  unfolding isShape
+  past-limits h = rw (le-leb 552 n a, ← e, not-true r h) refl
 
-  module _ (b : 1 ≤ M) where
-    pub many-tracks : 79 < M → false ≡ isShape n M S
-    unfolding isShape within
-    many-tracks h = rw (le-leb 552 n a, le-leb 1 M b, lt-leb M 79 h) refl
-
-    module _ (d : M ≤ 79) where
-      pub few-sectors : S < 5 → false ≡ isShape n M S
-      unfolding isShape within
-      few-sectors h = rw (le-leb 552 n a, le-leb 1 M b, le-leb M 79 d, lt-leb 5 S h) refl
-
-      module _ (e : 5 ≤ S) where
-        pub many-sectors : 36 < S → false ≡ isShape n M S
-        unfolding isShape within
-        many-sectors h = rw (le-leb 552 n a, le-leb 1 M b, le-leb M 79 d, le-leb 5 S e, lt-leb S 36 h) refl
-
-        pub by-length : {k : ℕ} → S ≤ 36 → k ≡ (M + 1) * S → eqb n (k * 256) ≡ isShape n M S
-        unfolding isShape within
-        by-length f h = rw (le-leb 552 n a, le-leb 1 M b, le-leb M 79 d, le-leb 5 S e, le-leb S 36 f, h) refl
+  pub by-length : {k : ℕ} → not r ≡ false → k ≡ (M + 1) * S → eqb n (k * 256) ≡ isShape n M S
+  unfolding isShape
+  by-length h q = rw (le-leb 552 n a, ← e, not-false r h, q) refl
 
 module _ (img : List ℕ) {r : Bool} {M S : ℕ} (e : r ≡ isShape (length img) M S) (m : M ≡ getD img 550 0) (s : S ≡ getD img 551 0) where
   is-right : r ≡ shapeRight img

@@ -3,8 +3,8 @@ use mathlib.Core.Bool.{Bool, false}
 use mathlib.Core.List.{List}
 use Prim.Native.Nat.{ℕ, _+_, _*_}
 use lib.Dec.{eqb, leb}
-use Rattle.rules.specs.Bytes.{pick, within}
-use Rattle.rules.specs.Image.{mostTracks, mostSectors, lastTrack, perTrack, shapeRight, firstFree, lastFree, freeCount}
+use Rattle.rules.specs.Bytes.{pick}
+use Rattle.rules.specs.Image.{withinLimits, lastTrack, perTrack, shapeRight, firstFree, lastFree, freeCount}
 use Rattle.disk.specs.declared.Shaped.{Shaped}
 use Rattle.disk.specs.declared.Shaped.the-variants.{Right, Wrong}
 use Rattle.disk.specs.declared.Free.{Free}
@@ -13,10 +13,8 @@ use Rattle.disk.specs.declared.Free.{Free}
 unfoldable pub isShape : ℕ → ℕ → ℕ → Bool
 isShape n M S =
     pick (leb 552 n)
-    (pick (within 1 mostTracks M)
-    (pick (within 5 mostSectors S)
+    (pick (withinLimits M S)
     (eqb n ((M + 1) * S * 256))
-    false)
     false)
     false
 

@@ -4,10 +4,16 @@ use mathlib.Core.List.{List}
 use Prim.Native.Nat.{ℕ, _+_, _*_}
 use Rattle.rules.specs.Bytes.{part, over, six}
 use Rattle.rules.specs.Stores.{stored}
-use Rattle.rules.specs.Image.{index, isSector, isData, linkOf, infoSector}
+use Rattle.rules.specs.Image.{withinLimits, index, isSector, isData, linkOf, infoSector, infoFirst}
 use Rattle.rules.specs.Transfer.{fresh, linked}
 use Rattle.laws.specs.Single.{Single, single}
 use Rattle.disk.specs.Loaded.{shapeOf, freeOf}
+
+pub sectors-single : (M S : ℕ) → Single ((M + 1) * S)
+sectors-single M S = single ((M + 1) * S)
+
+pub within-limits-single : (M S : ℕ) → Single (withinLimits M S)
+within-limits-single M S = single (withinLimits M S)
 
 pub shape-of-single : (img : List ℕ) → Single (shapeOf img)
 shape-of-single img = single (shapeOf img)
@@ -30,8 +36,8 @@ link-single img none k a = single (stored img (linked none k a))
 pub free-of-single : (img : List ℕ) → Single (freeOf img)
 free-of-single img = single (freeOf img)
 
-pub put-free-single : (img : List ℕ) (first last count : ℕ) → Single (over img (256 * infoSector + 29) (six first last count))
-put-free-single img first last count = single (over img (256 * infoSector + 29) (six first last count))
+pub put-free-single : (img : List ℕ) (first last count : ℕ) → Single (over img (256 * infoSector + infoFirst) (six first last count))
+put-free-single img first last count = single (over img (256 * infoSector + infoFirst) (six first last count))
 
 pub load-sector-single : (tab : List ℕ) (at : ℕ) (img : List ℕ) (k : ℕ) → Single (over tab at (part img (256 * k) 256))
 load-sector-single tab at img k = single (over tab at (part img (256 * k) 256))

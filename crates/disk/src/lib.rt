@@ -3,7 +3,7 @@ ghost use mathlib.Core.Path.{_≡_};
 ghost use Prim.Native.Nat.{_+_, _*_, _≤_};
 ghost use Rattle.rules.specs.Bytes.{part, over, six};
 ghost use Rattle.rules.specs.Stores.{stored};
-ghost use Rattle.rules.specs.Image.{index, isSector, isData, linkOf, infoSector};
+ghost use Rattle.rules.specs.Image.{withinLimits, index, isSector, isData, linkOf, infoSector, infoFirst};
 ghost use Rattle.rules.specs.Transfer.{fresh, linked};
 ghost use Rattle.disk.specs.Loaded.{isShape, shapeOf, freeOf};
 use cells::copy;
@@ -32,19 +32,16 @@ pub struct Free {
 }
 
 // How many sectors there are.
-fn sectors(last: u8, per: u8) -> usize
+pub fn sectors(last: u8, per: u8) -> usize
     ensures { λ r. ⌜ (r ≡ (last + 1) * per) × (r ≤ 65280) ⌝ }
 {
     (last as usize + 1) * per as usize
 }
 
-// Does a length fit a last track and sectors per track, and are both within their limits?
-fn is_shape(length: usize, last: u8, per: u8) -> bool
-    ensures { λ r. ⌜ r ≡ isShape length last per ⌝ }
+// Are a last track and sectors per track within their limits?
+pub fn within_limits(last: usize, per: usize) -> bool
+    ensures { λ r. ⌜ r ≡ withinLimits last per ⌝ }
 {
-    if length < 552 {
-        return false;
-    }
     if last < 1 {
         return false;
     }
@@ -54,7 +51,18 @@ fn is_shape(length: usize, last: u8, per: u8) -> bool
     if per < 5 {
         return false;
     }
-    if per > 36 {
+    per <= 36
+}
+
+// Does a length fit a last track and sectors per track, and are both within their limits?
+fn is_shape(length: usize, last: u8, per: u8) -> bool
+    ensures { λ r. ⌜ r ≡ isShape length last per ⌝ }
+{
+    if length < 552 {
+        return false;
+    }
+    let within = within_limits(last as usize, per as usize);
+    if !within {
         return false;
     }
     let n = sectors(last, per);
@@ -144,7 +152,7 @@ pub fn free_of(image: &[u8]) -> Free
 
 // The six bytes of the information record that say it.
 pub fn put_free(image: &mut [u8], first: u16, last: u16, count: u16)
-    ensures { λ _. ⌜ now (image .exit) ≡ over (now (image .entry)) (256 * infoSector + 29) (six first last count) ⌝ }
+    ensures { λ _. ⌜ now (image .exit) ≡ over (now (image .entry)) (256 * infoSector + infoFirst) (six first last count) ⌝ }
 {
     put6(image, 256 * 2 + 29, first, last, count);
 }

@@ -4,11 +4,12 @@ use mathlib.Core.Path.{_≡_}
 use mathlib.Core.List.{List}
 use Prim.Native.Nat.{ℕ}
 use Rattle.rules.specs.Stores.{stored, puts}
-use Rattle.rules.specs.Outcome.{answer, given, onImage, onBlock}
+use Rattle.rules.specs.Outcome.{answer, given, onImage, onBlock, told}
 use Rattle.rules.specs.Block.{blockAt, preset, extension}
 use Rattle.rules.specs.Call.{call}
 use Rattle.rules.specs.Census.{survey}
-use Rattle.rules.specs.Text.{told, errorText}
+use Rattle.rules.specs.Text.{errorText}
+use Rattle.rules.specs.Format.{format}
 use Rattle.rules.specs.Host.{packed, hostCensus}
 
 -- preset in the table tab: block n, offset i, value v. It leaves the table t
@@ -34,3 +35,7 @@ CensusPromise img xs ys r us ws = survey r us ws ≡ hostCensus img xs ys
 -- the error text of the number e in lent bytes m: it leaves t in them
 abbrev pub TextPromise : List ℕ → ℕ → ℕ → List ℕ → Type 0
 TextPromise m e r t = told r t ≡ errorText m e
+
+-- format of an image img lent: last track M, sectors per track S, label, volume number, date. It leaves i in it
+abbrev pub FormatPromise : List ℕ → ℕ → ℕ → List ℕ → ℕ → ℕ → ℕ → ℕ → ℕ → List ℕ → Type 0
+FormatPromise img M S label volume month day year r i = told r i ≡ format img M S label volume month day year

@@ -3,10 +3,11 @@ use mathlib.Core.Path.{_≡_, sym, _∙_}
 use mathlib.Core.List.{List}
 use Prim.Native.Nat.{ℕ}
 use Rattle.rules.specs.Text.{errorText}
+use Rattle.rules.specs.Format.{format}
 use Rattle.rules.specs.Host.{hostCensus}
 use Rattle.laws.specs.Single.{single-told}
 use Rattle.census_laws.specs.Accepted.{single-survey}
-use Rattle.flex.specs.Promised.{PresetPromise, ExtensionPromise, CallPromise, CensusPromise, TextPromise}
+use Rattle.flex.specs.Promised.{PresetPromise, ExtensionPromise, CallPromise, CensusPromise, TextPromise, FormatPromise}
 
 pub flex-preset-single : (tab : List ℕ) (n i v : ℕ) {r r′ : ℕ} {t t′ : List ℕ} → PresetPromise tab n i v r t → PresetPromise tab n i v r′ t′
     → (r ≡ r′) × (t ≡ t′)
@@ -26,3 +27,7 @@ flex-census-single img xs ys p q = single-survey (hostCensus img xs ys) _ _ _ _ 
 
 pub flex-error-text-single : (m : List ℕ) (e : ℕ) {r r′ : ℕ} {t t′ : List ℕ} → TextPromise m e r t → TextPromise m e r′ t′ → (r ≡ r′) × (t ≡ t′)
 flex-error-text-single m e p q = single-told (errorText m e) _ _ _ _ p q
+
+pub flex-format-single : (img : List ℕ) (M S : ℕ) (label : List ℕ) (volume month day year : ℕ) {r r′ : ℕ} {i i′ : List ℕ}
+    → FormatPromise img M S label volume month day year r i → FormatPromise img M S label volume month day year r′ i′ → (r ≡ r′) × (i ≡ i′)
+flex-format-single img M S label volume month day year p q = single-told (format img M S label volume month day year) _ _ _ _ p q

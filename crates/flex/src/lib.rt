@@ -1,6 +1,6 @@
-// The five entries as a host program in C or Rust reaches them: numbers and byte slices, each slice a pointer and its length.
+// The six entries as a host program in C or Rust reaches them: numbers and byte slices, each slice a pointer and its length.
 // Nothing else stands here; the prototypes are in host/flex.h. What each promises is a predicate of specs/Promised.antt.
-ghost use Rattle.flex.specs.Promised.{PresetPromise, ExtensionPromise, CallPromise, CensusPromise, TextPromise};
+ghost use Rattle.flex.specs.Promised.{PresetPromise, ExtensionPromise, CallPromise, CensusPromise, TextPromise, FormatPromise};
 
 // Preset: the answer.
 #[no_mangle]
@@ -41,4 +41,21 @@ pub extern "C" fn flex_error_text(text: &mut [u8], number: u8) -> u32
     ensures { λ r. ⌜ TextPromise (now (text .entry)) number r (now (text .exit)) ⌝ }
 {
     message::error_text(text, number) as u32
+}
+
+// Format: the answer.
+#[no_mangle]
+pub extern "C" fn flex_format(
+    image: &mut [u8],
+    last: usize,
+    per: usize,
+    label: &[u8],
+    volume: u16,
+    month: u8,
+    day: u8,
+    year: u8,
+) -> u32
+    ensures { λ r. ⌜ FormatPromise (now (image .entry)) last per (now (label .entry)) volume month day year r (now (image .exit)) ⌝ }
+{
+    format::format(image, last, per, label, volume, month, day, year) as u32
 }

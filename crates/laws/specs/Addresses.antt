@@ -1,5 +1,5 @@
 -- Shape, addresses (track, sector) and indices of sectors, and the way between them. The only arithmetic that is not linear stands here.
-use mathlib.Core.Path.{_≡_, sym, ap, _∙_}
+use mathlib.Core.Path.{_≡_, refl, sym, ap, _∙_}
 use mathlib.Core.Bool.{true}
 use mathlib.Core.List.{List}
 use Prim.Native.Nat.{ℕ, _+_, _-_, _*_, _/_, _%_, _≤_, _<_}
@@ -10,7 +10,7 @@ use lib.ListN.{length}
 use lib.Dec.{eqb, leb}
 use borrow.Author.Tests.{le-leb, eqb-true, eq-eqb}
 use Rattle.rules.specs.Bytes.{within}
-use Rattle.rules.specs.Image.{mostTracks, mostSectors, lastTrack, perTrack, shapeRight, trackOf, sectorOf, index, isData, dataNumber}
+use Rattle.rules.specs.Image.{mostTracks, mostSectors, withinLimits, lastTrack, perTrack, shapeRight, trackOf, sectorOf, index, isData, dataNumber}
 use Rattle.rules.specs.Directory.{isDirectory}
 use Rattle.laws.specs.Tests.{both, within-is, within-true}
 
@@ -35,6 +35,20 @@ module _ (M S : ℕ) (z : Shape M S) where
   pub sectors-many : 10 ≤ (M + 1) * S
   sectors-many = product 2 (M + 1) 5 S (omega (arith, z)) (z .sectors)
 
+-- by the test of both limits
+pub limits-are : (M S : ℕ) → withinLimits M S ≡ true → Shape M S
+unfolding withinLimits
+limits-are M S h =
+    let q = both (within 1 mostTracks M) _ h in
+    let m = within-is 1 mostTracks M (q .0) in
+    let n = within-is 5 mostSectors S (q .1) in
+    record { tracks = m .0; most-tracks = m .1; sectors = n .0; most-sectors = n .1 }
+
+pub limits-true : (M S : ℕ) → Shape M S → withinLimits M S ≡ true
+unfolding withinLimits
+limits-true M S z =
+    rw (within-true 1 mostTracks M (z .tracks) (z .most-tracks)) (within-true 5 mostSectors S (z .sectors) (z .most-sectors))
+
 -- an image of this shape
 pub record Shaped (img : List ℕ) : Type 0 where
   pub shape : Shape (lastTrack img) (perTrack img)
@@ -44,22 +58,14 @@ pub shape-is : (img : List ℕ) → shapeRight img ≡ true → Shaped img
 unfolding shapeRight
 shape-is img h =
     let r = both (leb 552 (length img)) _ h in
-    let s = both (within 1 mostTracks (lastTrack img)) _ (r .1) in
-    let t = both (within 5 mostSectors (perTrack img)) _ (s .1) in
-    let m = within-is 1 mostTracks (lastTrack img) (s .0) in
-    let n = within-is 5 mostSectors (perTrack img) (t .0) in
-    record { shape = record { tracks = m .0; most-tracks = m .1; sectors = n .0; most-sectors = n .1 }; long = eqb-true _ _ (t .1) }
+    let s = both (withinLimits (lastTrack img) (perTrack img)) _ (r .1) in
+    record { shape = limits-are (lastTrack img) (perTrack img) (s .0); long = eqb-true _ _ (s .1) }
 
 pub shape-true : (img : List ℕ) → Shaped img → shapeRight img ≡ true
 unfolding shapeRight
 shape-true img z =
     let l : 552 ≤ length img = omega (arith, z .long, sectors-many (lastTrack img) (perTrack img) (z .shape)) in
-    rw (
-      le-leb 552 (length img) l,
-      within-true 1 mostTracks (lastTrack img) (z .shape .tracks) (z .shape .most-tracks),
-      within-true 5 mostSectors (perTrack img) (z .shape .sectors) (z .shape .most-sectors),
-    )
-    (eq-eqb _ _ (z .long))
+    rw (le-leb 552 (length img) l, limits-true (lastTrack img) (perTrack img) (z .shape)) (eq-eqb _ _ (z .long))
 
 -- a sector lies inside the image
 pub sector-inside : (img : List ℕ) → Shaped img → (k : ℕ) → k < (lastTrack img + 1) * perTrack img → 256 * k + 256 ≤ length img
@@ -145,6 +151,18 @@ index-small S a h = omega (arith, product (trackOf a) 255 S 255 (omega arith) (o
 unfoldable pub addressOf : ℕ → ℕ → ℕ
 addressOf S k = 256 * (k / S) + k % S + 1
 
+-- its track, and its place on the track
+pub track-of : (u S k : ℕ) → 1 ≤ S → k < (u + 1) * S → k / S ≤ u
+track-of u S k pos h = let t : k / S < u + 1 = div-lt-iff-lt-mul pos .1 h in omega arith
+
+pub place-on : (S k : ℕ) → 1 ≤ S → k % S < S
+place-on S k pos = mod-lt k pos
+
+-- the place r of the track t
+pub address-at : (S t r k : ℕ) → k ≡ t * S + r → r < S → addressOf S k ≡ 256 * t + r + 1
+unfolding addressOf
+address-at S t r k e h = rw (e, digits-div t {m = S} h, digits-mod t {m = S} h) refl
+
 -- there and back
 pub address-index : (M S a : ℕ) → Lies 0 M 1 S a → a < 65536 → addressOf S (index S a) ≡ a
 unfolding addressOf
@@ -164,13 +182,13 @@ number-inj M S a b l k h j e =
 -- the sectors from track t to track u
 module _ (t u S k : ℕ) (low : t * S ≤ k) (high : k < (u + 1) * S) (few : u < 256) (pos : 1 ≤ S) (some : S < 256) where
   rest : k % S < S
-  rest = mod-lt k pos
+  rest = place-on S k pos
 
   from : t ≤ k / S
   from = le-div-iff-mul-le pos .1 low
 
-  upto : k / S < u + 1
-  upto = div-lt-iff-lt-mul pos .1 high
+  upto : k / S ≤ u
+  upto = track-of u S k pos high
 
   high-byte : trackOf (addressOf S k) ≡ k / S
   unfolding addressOf

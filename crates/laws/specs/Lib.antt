@@ -16,5 +16,6 @@ pub mod Effects
 pub mod Counting
 pub mod Surveys
 pub mod Texts
+pub mod Blank
 pub mod Parts
 pub mod Settled

@@ -7,7 +7,8 @@ use native.Mathlib.Omega.{arith}
 use lib.ListN.{length}
 use lib.Dec.{leb}
 use Rattle.rules.specs.Directory.{member}
-use Rattle.rules.specs.Text.{Told, told, errorLine, errorText}
+use Rattle.rules.specs.Outcome.{Told, told}
+use Rattle.rules.specs.Text.{errorLine, errorText}
 use Rattle.laws.specs.Tests.{pick-all}
 use Rattle.laws.specs.Bytes.{length-over}
 use Rattle.laws.specs.Small.{Small, small-each, small-over}

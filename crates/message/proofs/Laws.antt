@@ -5,7 +5,8 @@ use Prim.Native.Nat.{ℕ, _≤_, _<_}
 use lib.ListN.{length}
 use borrow.Author.Tests.{le-leb, lt-leb}
 use Rattle.rules.specs.Bytes.{over}
-use Rattle.rules.specs.Text.{told, errorLine, errorText}
+use Rattle.rules.specs.Outcome.{told}
+use Rattle.rules.specs.Text.{errorLine, errorText}
 use Rattle.laws.specs.Bytes.{over-append}
 use Rattle.message.specs.Digits.{digits}
 

@@ -1,7 +1,8 @@
 // The error text: a number given back, as a line of text.
 ghost use mathlib.Core.Path.{_≡_};
 ghost use Rattle.rules.specs.Bytes.{over};
-ghost use Rattle.rules.specs.Text.{told, errorText};
+ghost use Rattle.rules.specs.Outcome.{told};
+ghost use Rattle.rules.specs.Text.{errorText};
 ghost use Rattle.message.specs.Digits.{digits};
 use cells::store;
 

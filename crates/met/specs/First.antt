@@ -23,6 +23,7 @@ use Rattle.demands.specs.Service.{flex, leaves}
 use Rattle.demands.specs.Demands.{Lent, due, names, Demand1}
 use Rattle.met.specs.Bounds.{touches, untouched, unnamed-stays, Tame, tame-settled}
 use Rattle.met.specs.Tames.{asked-tame}
+use Rattle.met.specs.Blanks.{formatted}
 
 -- ---- what is due before all else
 
@@ -94,6 +95,9 @@ demand1 = record {
   extension = λ tab n c. refl;
   text = λ m e. refl;
   census = λ img xs ys. refl;
+  format = λ img w. refl;
+  format-stated = λ img w. formatted img w .answers;
+  format-refused = λ img w h. formatted img w .kept h;
   none = λ img tab n b h. ap (leaves img tab n) (call-wrong img tab n b (λ t k. h (record { table = t; block = k })));
   stated = λ img tab n b. call-lawful img tab n b .answers;
   exact = λ img tab n b. (refl, refl);

@@ -1,6 +1,7 @@
--- That our service meets the three demands. Demand 1: what a call may touch, on any bytes
+-- That our service meets the three demands. Demand 1: what a call may touch, on any bytes; blank diskettes
 pub mod Bounds
 pub mod Tames
+pub mod Blanks
 pub mod First
 -- image and table agree with a ledger, and are then what it says
 pub mod Relation

@@ -10,15 +10,15 @@ use lib.ListN.{length, getD}
 use borrow.Author.Tests.{eq-eqb}
 use Rattle.rules.specs.Bytes.{part, byteAt, over, one, zeros}
 use Rattle.rules.specs.Directory.{neverUsed, live, sizeAt}
-use Rattle.rules.specs.Outcome.{Out}
+use Rattle.rules.specs.Outcome.{Out, saysOf, leftOf}
 use Rattle.rules.specs.Census.{Survey, survey}
 use Rattle.rules.specs.All.{rules}
 use Rattle.laws.specs.Tests.{never}
 use Rattle.demands.specs.Ledger.{Call, setting, asking, file, entryOf, tableOf, fate, reply}
 use Rattle.demands.specs.Diskette.{ledgerNumbers, ledgerOwners}
-use Rattle.demands.specs.Service.{Service, flex, saysOf, leftOf, ansOf, imgOf, tabOf, answers, gave, next, run}
-use Rattle.demands.specs.Demands.{Lent, surveyAnswer, begun, told, wholly, Demand1, Demand2, Demand3, ReadBack, Created}
-use Rattle.demands.specs.Fakes.{withCall, refusing, deaf, idling, stuck, nodding, eager, counting, inventing, meddling, deleting, misextending, wiping, mislisting, misnoting, scrambling, stingy, swapping, booting, misplacing, stalling, purging, softening, stopping, heedless, guarding, sealing}
+use Rattle.demands.specs.Service.{Wanted, Service, flex, ansOf, imgOf, tabOf, answers, gave, next, run}
+use Rattle.demands.specs.Demands.{Lent, surveyAnswer, begun, told, wholly, Demand1, Demand2, Demand3, ReadBack, Created, FromBlank}
+use Rattle.demands.specs.Fakes.{withCall, refusing, deaf, idling, stuck, nodding, eager, counting, inventing, meddling, deleting, misextending, wiping, mislisting, misnoting, scrambling, stingy, swapping, booting, misplacing, stalling, purging, softening, stopping, heedless, guarding, sealing, dataLeft, hasty, hoarding, rash, interleaving}
 use Rattle.refuted.specs.All.{demands}
 use Rattle.refuted.specs.Pair.{bDat, bDatAt, gapAt, pairImage, pair, pair-start, paired}
 
@@ -120,6 +120,58 @@ purging-fails d = differ 0 65 refl (d .elsewhere strayed renamingTable 2 0 1040 
 pub purging-ours : (byteAt (imgOf (flex .call strayed renamingTable 2 0)) 1040 ≡ 65) × (surveyAnswer (flex .census strayed (zeros 5) (zeros 5)) ≡ 44)
 unfolding rules paired
 purging-ours = (refl, refl)
+
+-- `format`: the byte 20 of A.TXT's last sector, 1,1, is still there
+abbrev wanted : List ℕ → Wanted
+wanted label = record { last = 1; per = 5; label = label; volume = 7; month = 11; day = 15; year = 26 }
+
+abbrev blankLabel : List ℕ
+blankLabel = 65 ∷ 76 ∷ 65 ∷ 82 ∷ 77 ∷ 83 ∷ 32 ∷ 32 ∷ 32 ∷ 32 ∷ 32 ∷ []
+
+pub hasty-fails : Demand1 hasty → ⊥
+unfolding rules paired dataLeft
+hasty-fails d = differ 20 0 refl (ap (λ r. byteAt (leftOf r) 1284) (d .format pairImage (wanted blankLabel)))
+
+pub hasty-ours : (saysOf (flex .format pairImage (wanted blankLabel)) ≡ 0) × (byteAt (leftOf (flex .format pairImage (wanted blankLabel))) 1284 ≡ 0)
+unfolding rules paired
+hasty-ours = (refl, refl)
+
+-- `format-refused`: a label of no bytes, and the first byte of the image is gone
+pub rash-fails : Demand1 rash → ⊥
+unfolding rules paired
+rash-fails d = differ 0 1 refl (ap (λ m. byteAt m 0) (d .format-refused pairImage (wanted []) (differ 40 0 refl)))
+
+pub rash-ours : (saysOf (flex .format pairImage (wanted [])) ≡ 40) × (byteAt (leftOf (flex .format pairImage (wanted []))) 0 ≡ 1)
+unfolding rules paired
+rash-ours = (refl, refl)
+
+-- `lists` of a blank diskette: the census gives 44
+pub hoarding-fails : FromBlank hoarding → ⊥
+unfolding rules paired
+hoarding-fails d = differ 44 0 refl (ap surveyAnswer (d .lists pairImage (wanted blankLabel) (zeros 5) (zeros 5) refl refl refl))
+
+pub hoarding-ours : surveyAnswer (flex .census (leftOf (flex .format pairImage (wanted blankLabel))) (zeros 5) (zeros 5)) ≡ 0
+unfolding rules paired
+hoarding-ours = refl
+
+-- `lists`: the census accepts, and its first number is 1
+pub interleaving-fails : FromBlank interleaving → ⊥
+unfolding rules paired
+interleaving-fails d = differ 1 0 refl (ap firstListed (d .lists pairImage (wanted blankLabel) (zeros 5) (zeros 5) refl refl refl))
+  where
+    firstListed : Survey → ℕ
+    firstListed (survey a xs ys) = byteAt xs 0
+
+pub interleaving-ours : flex .census (leftOf (flex .format pairImage (wanted blankLabel))) (zeros 5) (zeros 5) ≡ survey 0 (0 ∷ 1 ∷ 2 ∷ 3 ∷ 4 ∷ []) (zeros 5)
+unfolding rules paired
+interleaving-ours = refl
+
+-- `accepts`: a right format is refused
+pub refusing-fails-too : FromBlank refusing → ⊥
+unfolding rules paired
+refusing-fails-too d =
+    differ 41 0 refl
+    (d .accepts pairImage (wanted blankLabel) (record { tracks = omega arith; most-tracks = omega arith; sectors = omega arith; most-sectors = omega arith }) refl refl)
 
 -- ---- demand 2: block 0 makes C.TXT
 

@@ -5,7 +5,7 @@ use Prim.Native.Nat.{ℕ, _+_, _*_, _/_, _%_}
 use lib.Dec.{eqb, ltb}
 use Rattle.rules.specs.Bytes.{pick, part, one, two, six, zeros, same}
 use Rattle.rules.specs.Stores.{Store, store, Put, put}
-use Rattle.rules.specs.Image.{index, isSector, isData, infoSector, firstFree, lastFree, freeCount}
+use Rattle.rules.specs.Image.{index, isSector, isData, infoSector, infoFirst, firstFree, lastFree, freeCount}
 use Rattle.rules.specs.Names.{legal}
 use Rattle.rules.specs.Directory.{directoryRight, firstOfDirectory, firstSlotOf, find, vacancy, placeOf, slotBehind, attributesAt, startAt, endAt, sizeAt}
 use Rattle.rules.specs.Outcome.{Outcome, done, unless, when, onSlot, onNone}
@@ -100,7 +100,7 @@ readSector img tab M S f =
 unfoldable pub hangStores : ℕ → ℕ → ℕ → ℕ → ℕ → ℕ → ℕ → ℕ → List Store
 hangStores S slot count first last start end size =
     linked (eqb count 0) (index S last) start
-    ++ (store infoSector 29 (six (pick (eqb count 0) start first) end (count + size)) ∷ mark slot)
+    ++ (store infoSector infoFirst (six (pick (eqb count 0) start first) end (count + size)) ∷ mark slot)
 
 -- "slot to 4-27": the slot as it is marked
 unfoldable pub gone : List ℕ → ℕ → List Put

@@ -13,6 +13,10 @@ mostTracks = 79
 abbrev pub mostSectors : ℕ
 mostSectors = 36
 
+-- both limits hold
+unfoldable pub withinLimits : ℕ → ℕ → Bool
+withinLimits M S = pick (within 1 mostTracks M) (within 5 mostSectors S) false
+
 -- "M and S are bytes 38 and 39 of sector (0, 3), image offsets 550 and 551."
 abbrev pub lastTrack : List ℕ → ℕ
 lastTrack img = byteAt img 550
@@ -24,10 +28,8 @@ perTrack img = byteAt img 551
 unfoldable pub shapeRight : List ℕ → Bool
 shapeRight img =
     pick (leb 552 (length img))
-    (pick (within 1 mostTracks (lastTrack img))
-    (pick (within 5 mostSectors (perTrack img))
+    (pick (withinLimits (lastTrack img) (perTrack img))
     (eqb (length img) ((lastTrack img + 1) * perTrack img * 256))
-    false)
     false)
     false
 
@@ -58,15 +60,37 @@ dataNumber S k = k - S
 abbrev pub linkOf : List ℕ → ℕ → ℕ
 linkOf img k = wordAt img (256 * k)
 
--- "Sector (0, 3), the information record: 29-30 first free, 31-32 last free, 33-34 free count"
+-- "Sector (0, 3), the information record: 29-30 first free, 31-32 last free, 33-34 free count"; "M and S are bytes 38 and 39"; 02, "label, number
+-- and date at 16-26, 27-28 and 35-37"
 abbrev pub infoSector : ℕ
 infoSector = 2
 
+abbrev pub infoLabel : ℕ
+infoLabel = 16
+
+abbrev pub infoVolume : ℕ
+infoVolume = 27
+
+abbrev pub infoFirst : ℕ
+infoFirst = 29
+
+abbrev pub infoLast : ℕ
+infoLast = 31
+
+abbrev pub infoCount : ℕ
+infoCount = 33
+
+abbrev pub infoDate : ℕ
+infoDate = 35
+
+abbrev pub infoShape : ℕ
+infoShape = 38
+
 abbrev pub firstFree : List ℕ → ℕ
-firstFree img = wordAt img (256 * infoSector + 29)
+firstFree img = wordAt img (256 * infoSector + infoFirst)
 
 abbrev pub lastFree : List ℕ → ℕ
-lastFree img = wordAt img (256 * infoSector + 31)
+lastFree img = wordAt img (256 * infoSector + infoLast)
 
 abbrev pub freeCount : List ℕ → ℕ
-freeCount img = wordAt img (256 * infoSector + 33)
+freeCount img = wordAt img (256 * infoSector + infoCount)

@@ -11,5 +11,6 @@ pub mod Files
 pub mod Call
 pub mod Census
 pub mod Text
+pub mod Format
 pub mod Host
 pub mod All

@@ -64,3 +64,13 @@ pub data Out : Type 0 where
 -- the block begins at f
 abbrev pub left : List ℕ → List ℕ → ℕ → Effect → Out
 left img tab f (effect a b ss ps) = out a b (stored img ss) (puts tab f ps)
+
+-- what an entry leaves that is lent one thing: the answer, and the lent image, table or text afterwards
+pub data Told : Type 0 where
+  told : ℕ → List ℕ → Told
+
+abbrev pub saysOf : Told → ℕ
+saysOf (told a m) = a
+
+abbrev pub leftOf : Told → List ℕ
+leftOf (told a m) = m

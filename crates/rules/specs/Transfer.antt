@@ -6,7 +6,7 @@ use lib.ListN.{set}
 use lib.Dec.{eqb}
 use Rattle.rules.specs.Bytes.{pick, byteAt, wordAt, part, one, two, six, zeros}
 use Rattle.rules.specs.Stores.{Store, store, Put, put}
-use Rattle.rules.specs.Image.{index, isData, linkOf, infoSector, firstFree, lastFree, freeCount}
+use Rattle.rules.specs.Image.{index, isData, linkOf, infoSector, infoFirst, firstFree, lastFree, freeCount}
 use Rattle.rules.specs.Directory.{placed}
 use Rattle.rules.specs.Outcome.{Outcome, done, unless, when, onSlot, andThen}
 use Rattle.rules.specs.Block.{activityField, startField, positionField, recordField, indexField, placeField, bufferField, activityIn, startIn, sizeIn, positionIn, indexIn}
@@ -59,7 +59,7 @@ linked none k a = pick none [] (store k 0 (two a) ∷ [])
 -- slot's copy of 17-22 follow": the information record's six bytes, the new sector, the link, the slot's six bytes
 unfoldable pub takeStores : ℕ → ℕ → ℕ → ℕ → ℕ → ℕ → ℕ → ℕ → ℕ → List Store
 takeStores S slot former new next last left start size =
-    store infoSector 29 (six next last left)
+    store infoSector infoFirst (six next last left)
     ∷ store (index S new) 0 (fresh size)
     ∷ (linked (eqb former 0) (index S former) new
     ++ (store (slot / 256) (slot % 256 + 13) (six start new size) ∷ []))

@@ -4,10 +4,10 @@ use mathlib.Core.Path.{_≡_}
 use mathlib.Core.List.{List}
 use Prim.Native.Nat.{ℕ}
 use denote.Ref.{now}
-use Rattle.rules.specs.Text.{told}
+use Rattle.rules.specs.Outcome.{told}
 use Rattle.rules.specs.Host.{asBytes}
 use Rattle.laws.specs.Facts.{Given}
-use Rattle.flex.proofs.Ensured.{Ensures, preset-ensured, extension-ensured, call-ensured, census-ensured, text-ensured}
+use Rattle.flex.proofs.Ensured.{Ensures, preset-ensured, extension-ensured, call-ensured, census-ensured, text-ensured, format-ensured}
 use Rattle.flex.proofs.flex_preset.Kinds as preset
 use Rattle.flex.proofs.flex_preset.Reads as presetReads
 use Rattle.flex.proofs.flex_extension.Kinds as extension
@@ -18,7 +18,9 @@ use Rattle.flex.proofs.flex_census.Kinds as census
 use Rattle.flex.proofs.flex_census.Reads as censusReads
 use Rattle.flex.proofs.flex_error_text.Kinds as text
 use Rattle.flex.proofs.flex_error_text.Reads as textReads
-use Rattle.demands.specs.Service.{flex}
+use Rattle.flex.proofs.flex_format.Kinds as format
+use Rattle.flex.proofs.flex_format.Reads as formatReads
+use Rattle.demands.specs.Service.{Wanted, flex}
 use Rattle.served.specs.Entries.{Output, apart, readBack}
 use Rattle.served.specs.Served.{preset-served, extension-served, call-served, census-served}
 
@@ -47,3 +49,10 @@ census-code = record {
 
 pub text-code : Ensures 1 text.ps text.r textReads.Asked textReads.Learnt (λ κs a r s. told r (now (s .0)) ≡ flex .text (now (a .0)) (a .1 .0))
 text-code = text-ensured
+
+abbrev wanted : ℕ → ℕ → List ℕ → ℕ → ℕ → ℕ → ℕ → Wanted
+wanted last per label volume month day year = record { last = last; per = per; label = label; volume = volume; month = month; day = day; year = year }
+
+pub format-code : Ensures 2 format.ps format.r formatReads.Asked formatReads.Learnt
+    (λ κs a r s. told r (now (s .0)) ≡ flex .format (now (a .0)) (wanted (a .1 .0) (a .1 .1 .0) (now (a .1 .1 .1 .0)) (a .1 .1 .1 .1 .0) (a .1 .1 .1 .1 .1 .0) (a .1 .1 .1 .1 .1 .1 .0) (a .1 .1 .1 .1 .1 .1 .1 .0)))
+format-code = format-ensured

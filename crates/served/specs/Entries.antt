@@ -1,17 +1,17 @@
--- THE STATEMENT: the five exported entries as a host sees them, what is known of them, the service that a host builds from them, and that it is
+-- THE STATEMENT: the six exported entries as a host sees them, what is known of them, the service that a host builds from them, and that it is
 -- the demands' service.
 use mathlib.Core.Path.{_≡_}
 use mathlib.Core.List.{List, [], _∷_}
 use Prim.Native.Nat.{ℕ, _+_, _*_, _/_, _%_, _<_}
 use lib.ListN.{length}
-use Rattle.rules.specs.Outcome.{Out, out}
+use Rattle.rules.specs.Outcome.{Out, out, Told, told}
 use Rattle.rules.specs.Census.{Survey, survey}
-use Rattle.rules.specs.Text.{Told, told}
 use Rattle.rules.specs.Host.{asBytes}
 use Rattle.laws.specs.Each.{Each}
 use Rattle.laws.specs.Small.{Small}
-use Rattle.flex.specs.Promised.{PresetPromise, ExtensionPromise, CallPromise, CensusPromise, TextPromise}
-use Rattle.demands.specs.Service.{Service, flex}
+use Rattle.flex.specs.Promised.{PresetPromise, ExtensionPromise, CallPromise, CensusPromise, TextPromise, FormatPromise}
+use Rattle.demands.specs.Service.{Wanted, Service, flex}
+use Rattle.demands.specs.Demands.{Typed}
 
 -- ---- what a host can hold
 
@@ -29,6 +29,14 @@ pub record Output (xs : List ℕ) : Type 0 where
   pub numbers : Each (λ (x : ℕ). x < 65536) xs
   pub long : length (asBytes xs) < limit
 
+-- a blank diskette that it can ask for
+pub record Askable (w : Wanted) : Type 0 where
+  pub last : w .last < limit
+  pub per : w .per < limit
+  pub label : length (w .label) < limit
+  pub volume : w .volume < 65536
+  pub typed : Typed w
+
 -- ---- the entries
 
 -- a number, and the lent bytes afterwards
@@ -38,6 +46,7 @@ pub record Entries : Type 0 where
   pub flex-call : List ℕ → List ℕ → ℕ → ℕ → ℕ × List ℕ × List ℕ
   pub flex-census : List ℕ → List ℕ → List ℕ → ℕ × List ℕ × List ℕ
   pub flex-error-text : List ℕ → ℕ → ℕ × List ℕ
+  pub flex-format : List ℕ → Wanted → ℕ × List ℕ
 
 -- every outcome fits its promise, whatever a host hands over
 pub record Kept (h : Entries) : Type 0 where
@@ -51,6 +60,8 @@ pub record Kept (h : Entries) : Type 0 where
       → let o = h .flex-census img xs ys in CensusPromise img xs ys (o .0) (o .1) (o .2)
   pub text : (m : List ℕ) (e : ℕ) → Held m → e < 256
       → let o = h .flex-error-text m e in TextPromise m e (o .0) (o .1)
+  pub format : (img : List ℕ) (w : Wanted) → Held img → Askable w
+      → let o = h .flex-format img w in FormatPromise img (w .last) (w .per) (w .label) (w .volume) (w .month) (w .day) (w .year) (o .0) (o .1)
 
 -- ---- the service that a host builds from them
 
@@ -77,6 +88,7 @@ serviceOf h = record {
   call = λ img tab n b. apart (h .flex-call img tab n b);
   census = λ img xs ys. readBack (h .flex-census img (asBytes xs) (asBytes ys));
   text = λ m e. saying (h .flex-error-text m e);
+  format = λ img w. saying (h .flex-format img w);
 }
 
 -- ---- the same service, to a host
@@ -87,6 +99,7 @@ pub record Same (σ τ : Service) : Type 0 where
   pub call : (img tab : List ℕ) (n b : ℕ) → Held img → Held tab → n < limit → b < 256 → σ .call img tab n b ≡ τ .call img tab n b
   pub census : (img xs ys : List ℕ) → Held img → Output xs → Output ys → σ .census img xs ys ≡ τ .census img xs ys
   pub text : (m : List ℕ) (e : ℕ) → Held m → e < 256 → σ .text m e ≡ τ .text m e
+  pub format : (img : List ℕ) (w : Wanted) → Held img → Askable w → σ .format img w ≡ τ .format img w
 
 -- the promises, and nothing else, give the service that the demands speak of
 abbrev pub Served : Type 0

@@ -4,18 +4,18 @@ use mathlib.Core.List.{List, [], _∷_}
 use Prim.Native.Nat.{ℕ, _<_}
 use native.Mathlib.Omega.{arith}
 use lib.ListN.{length}
-use Rattle.rules.specs.Outcome.{Out, out, onImage, onBlock}
+use Rattle.rules.specs.Outcome.{Out, out, onImage, onBlock, Told, saysOf, leftOf}
 use Rattle.rules.specs.Block.{blockAt, preset, extension}
 use Rattle.rules.specs.Call.{call}
-use Rattle.rules.specs.Text.{Told}
 use Rattle.laws.specs.Each.{Each}
 use Rattle.laws.specs.Small.{Small}
 use Rattle.laws.specs.Facts.{Given}
 use Rattle.laws.specs.Stores.{length-stored, length-puts}
 use Rattle.laws.specs.Effects.{call-lawful, preset-quiet, extension-quiet}
+use Rattle.laws.specs.Blank.{formatted}
 use Rattle.demands.specs.Ledger.{Call, setting, extending, asking}
-use Rattle.demands.specs.Service.{Service, flex, saysOf, leftOf, imgOf, tabOf, ansOf, byteOf, Machine, Entry, outcome, next, entry, run, log}
-use Rattle.served.specs.Entries.{limit, Held, Entries, Kept, serviceOf, Same}
+use Rattle.demands.specs.Service.{Wanted, Service, flex, imgOf, tabOf, ansOf, byteOf, Machine, Entry, outcome, next, entry, run, log}
+use Rattle.served.specs.Entries.{limit, Held, Askable, Entries, Kept, serviceOf, Same}
 use Rattle.served.specs.Served.{served}
 
 -- a call that a host can make
@@ -58,6 +58,13 @@ pub held-run : (x : Machine) → HeldMachine x → (cs : List Call) → Each Mad
 unfolding run
 held-run x h [] k = h
 held-run x h (c ∷ cs) k = held-run (next flex x c) (held-next x h c (k .0)) cs (k .1)
+
+-- and after a format
+pub held-format : (img : List ℕ) (w : Wanted) → Held img → Askable w → Held (leftOf (flex .format img w))
+held-format img w h a =
+    let f = formatted img (w .last) (w .per) (w .label) (w .volume) (w .month) (w .day) (w .year) in
+    let t = a .typed in
+    held-as img _ h (f .long) (f .small (h .bytes) (t .label) (t .month) (t .day) (t .year))
 
 module _ (σ : Service) (s : Same σ flex) where
   outcome-same : (x : Machine) → HeldMachine x → (c : Call) → Made c → outcome σ x c ≡ outcome flex x c

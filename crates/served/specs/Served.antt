@@ -1,4 +1,4 @@
--- THE THEOREM: the promises give the service. Each promise by itself first, then all five.
+-- THE THEOREM: the promises give the service. Each promise by itself first, then all six.
 use mathlib.Core.Path.{_≡_, refl, ap, ap₂, _∙_}
 use mathlib.Core.Bool.{Bool, true, false}
 use mathlib.Core.List.{List}
@@ -9,9 +9,8 @@ use lib.Dec.{eqb}
 use borrow.Author.Tests.{eqb-true, eqb-false, eq-eqb, ne-eqb}
 use Rattle.rules.specs.Bytes.{pick}
 use Rattle.rules.specs.Image.{shapeRight, lastTrack, perTrack}
-use Rattle.rules.specs.Outcome.{out}
+use Rattle.rules.specs.Outcome.{out, told}
 use Rattle.rules.specs.Census.{Survey, survey, listed, owners, fault, concluded, census}
-use Rattle.rules.specs.Text.{told}
 use Rattle.rules.specs.Host.{asBytes, hostConcluded, hostCensus}
 use Rattle.laws.specs.Facts.{Given}
 use Rattle.laws.specs.Addresses.{Shaped, shape-is}
@@ -89,7 +88,7 @@ module _ (img xs ys : List ℕ) (p : Output xs) (q : Output ys) where
   pub census-served : (r : ℕ) (us ws : List ℕ) → CensusPromise img (asBytes xs) (asBytes ys) r us ws → readBack (r, us, ws) ≡ flex .census img xs ys
   census-served r us ws c = ap backOf c ∙ census-back
 
--- ---- all five
+-- ---- all six
 
 pub served : Served
 served h k = record {
@@ -98,6 +97,7 @@ served h k = record {
   call = λ img tab n b i t a c. call-served img tab n b _ _ _ (record { image = i .bytes; table = t .bytes; byte = c }) (k .call img tab n b i t a c);
   census = λ img xs ys i p q. census-served img xs ys p q _ _ _ (k .census img (asBytes xs) (asBytes ys) i (lent xs p) (lent ys q));
   text = λ m e t a. k .text m e t a;
+  format = λ img w i a. k .format img w i a;
 }
   where
     lent : (zs : List ℕ) → Output zs → Held (asBytes zs)

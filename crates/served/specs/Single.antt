@@ -3,14 +3,16 @@ use mathlib.Core.Path.{_≡_, refl, ap, ap₂, _∙_}
 use mathlib.Core.List.{List}
 use Prim.Native.Nat.{ℕ, _<_}
 use Rattle.rules.specs.Stores.{stored, puts}
-use Rattle.rules.specs.Outcome.{answer, given, onImage, onBlock}
+use Rattle.rules.specs.Outcome.{answer, given, onImage, onBlock, Told, told}
 use Rattle.rules.specs.Block.{blockAt, preset, extension}
 use Rattle.rules.specs.Call.{call}
 use Rattle.rules.specs.Census.{Survey, survey}
-use Rattle.rules.specs.Text.{Told, told, errorText}
+use Rattle.rules.specs.Text.{errorText}
+use Rattle.rules.specs.Format.{format}
 use Rattle.rules.specs.Host.{packed, hostCensus}
-use Rattle.flex.specs.Promises.{flex-preset-single, flex-extension-single, flex-call-single, flex-census-single, flex-error-text-single}
-use Rattle.served.specs.Entries.{limit, Held, Entries, Kept}
+use Rattle.flex.specs.Promises.{flex-preset-single, flex-extension-single, flex-call-single, flex-census-single, flex-error-text-single, flex-format-single}
+use Rattle.demands.specs.Service.{Wanted}
+use Rattle.served.specs.Entries.{limit, Held, Askable, Entries, Kept}
 
 -- ---- by the rules
 
@@ -31,6 +33,7 @@ byRules = record {
   );
   flex-census = λ img xs ys. surveyed (hostCensus img xs ys);
   flex-error-text = λ m e. texted (errorText m e);
+  flex-format = λ img w. texted (format img (w .last) (w .per) (w .label) (w .volume) (w .month) (w .day) (w .year));
 }
 
 survey-is : (s : Survey) → survey (surveyed s .0) (surveyed s .1) (surveyed s .2) ≡ s
@@ -46,6 +49,7 @@ kept-by-rules = record {
   call = λ img tab n b i t a c. record { answers = refl; images = refl; tables = refl };
   census = λ img xs ys i a b. survey-is (hostCensus img xs ys);
   text = λ m e t a. told-is (errorText m e);
+  format = λ img w i a. told-is (format img (w .last) (w .per) (w .label) (w .volume) (w .month) (w .day) (w .year));
 }
 
 -- ---- in one way only: the number and the bytes of every entry
@@ -56,6 +60,7 @@ pub record SameEntries (h h′ : Entries) : Type 0 where
   pub call : (img tab : List ℕ) (n b : ℕ) → Held img → Held tab → n < limit → b < 256 → h .flex-call img tab n b ≡ h′ .flex-call img tab n b
   pub census : (img xs ys : List ℕ) → Held img → Held xs → Held ys → h .flex-census img xs ys ≡ h′ .flex-census img xs ys
   pub text : (m : List ℕ) (e : ℕ) → Held m → e < 256 → h .flex-error-text m e ≡ h′ .flex-error-text m e
+  pub format : (img : List ℕ) (w : Wanted) → Held img → Askable w → h .flex-format img w ≡ h′ .flex-format img w
 
 pair : (o o′ : ℕ × List ℕ) → (o .0 ≡ o′ .0) × (o .1 ≡ o′ .1) → o ≡ o′
 pair o o′ e = ap₂ (λ (r : ℕ) (m : List ℕ). (r, m)) (e .0) (e .1)
@@ -73,4 +78,5 @@ kept-single h h′ k k′ = record {
   call = λ img tab n b i t a c. triple _ _ (flex-call-single img tab n b (k .call img tab n b i t a c) (k′ .call img tab n b i t a c));
   census = λ img xs ys i a b. triple _ _ (flex-census-single img xs ys (k .census img xs ys i a b) (k′ .census img xs ys i a b));
   text = λ m e t a. pair _ _ (flex-error-text-single m e (k .text m e t a) (k′ .text m e t a));
+  format = λ img w i a. pair _ _ (flex-format-single img (w .last) (w .per) (w .label) (w .volume) (w .month) (w .day) (w .year) (k .format img w i a) (k′ .format img w i a));
 }

@@ -14,7 +14,7 @@ impl Scene<'_> {
     /// From a state that calls have made: one damage, one look at what that does, and back.
     pub fn what_if(&mut self) -> Checked<()> {
         let before = self.snapshot();
-        self.damage_image();
+        self.damage_image()?;
         match self.random.below(4) {
             0 => self.aim()?,
             1 => self.work()?,
@@ -24,8 +24,8 @@ impl Scene<'_> {
         Ok(())
     }
 
-    /// One thing on the diskette that is not as it should be, or is healed.
-    pub fn damage_image(&mut self) {
+    /// One thing on the diskette that is not as it should be, or is healed, or a format under blocks that may be open.
+    pub fn damage_image(&mut self) -> Checked<()> {
         match self.random.below(18) {
             0 => {
                 let count = self.any_count();
@@ -43,8 +43,10 @@ impl Scene<'_> {
             12..=14 => self.share(),
             15 => self.heal_directory(),
             16 => self.heal_shape(),
-            _ => self.reformat(),
+            _ if self.random.chance(50) => self.clear(),
+            _ => self.format()?,
         }
+        Ok(())
     }
 
     fn damage_directory(&mut self) {
@@ -121,13 +123,10 @@ impl Scene<'_> {
 
     /// Other M and S: any, or such that the length still fits.
     fn reshape(&mut self) {
-        let sectors = (self.last + 1) * self.per;
-        let fitting: Vec<[u8; 2]> = (5..=36)
-            .filter(|per| sectors % per == 0 && (2..=80).contains(&(sectors / per)))
-            .map(|per| [(sectors / per - 1) as u8, per as u8])
-            .collect();
+        let fitting = self.fitting_shapes();
         let shape = if self.random.chance(70) {
-            self.random.one_of(&fitting)
+            let (last, per) = self.random.one_of(&fitting);
+            [last as u8, per as u8]
         } else {
             [self.random.byte(), self.random.byte()]
         };

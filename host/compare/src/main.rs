@@ -15,6 +15,7 @@ mod scene;
 mod seen;
 mod sweep;
 mod tally;
+mod wanted;
 mod work;
 
 use pair::{Checked, Mismatch, Pair};
@@ -184,7 +185,7 @@ fn shape(random: &mut Random) -> (usize, usize) {
 /// All of track 0 upward, sector 5 alone, or some sectors in any order.
 fn directory(random: &mut Random, per: usize) -> Vec<usize> {
     match random.below(4) {
-        0..=1 => (5..=per).collect(),
+        0..=1 => Scene::upward(per),
         2 => vec![5],
         _ => {
             let mut others: Vec<usize> = (6..=per).collect();
@@ -208,7 +209,7 @@ fn step(scene: &mut Scene, mood: Mood) -> Checked<()> {
         return scene.what_if();
     }
     if scene.random.chance(damage_image) {
-        scene.damage_image();
+        scene.damage_image()?;
     }
     if scene.random.chance(damage_block) {
         let fcb = scene.random.below(flex::BLOCKS);

@@ -2,8 +2,10 @@
 //! bytes of both buffers must then be equal, margins included.
 
 use crate::lent::Lent;
-use crate::seen::{Seen, Surveyed};
-use crate::tally::{row_of_call, Tally, CENSUS, ERROR_TEXT, EXTENSION, PRESET};
+use crate::seen::{Formatted, Seen, Surveyed};
+use crate::tally::{row_of_call, Tally, CENSUS, ERROR_TEXT, EXTENSION, FORMAT, PRESET};
+use crate::wanted::Wanted;
+use flex::Held;
 use std::collections::VecDeque;
 use std::fmt::{self, Write};
 
@@ -16,9 +18,10 @@ pub enum Made {
     Call { image: usize, table: usize, fcb: usize, byte: u8, function: Option<u8>, activity: Option<u8> },
     Census { image: usize, sectors: usize, owners: usize },
     ErrorText { text: usize, number: u8 },
+    Format { image: usize, last: usize, per: usize, label: usize, volume: u16, date: [u8; 3] },
 }
 
-/// The two services differ.
+/// The two services differ, or do together what they must not.
 pub struct Mismatch(pub String);
 
 impl fmt::Display for Mismatch {
@@ -172,6 +175,42 @@ impl<'a> Pair<'a> {
         Ok(expected)
     }
 
+    /// Format of an image of this length. A refusal must change nothing; what is made must be blank to the census.
+    pub fn format_lent(&mut self, image: usize, wanted: &Wanted) -> Checked<u32> {
+        let Wanted { last, per, volume, date, .. } = *wanted;
+        let formatted = Formatted::before(self.plain.image.lend(image), self.plain.table.bytes(), wanted);
+        let before = self.proved.image.clone();
+        let label = Lent::new(&wanted.label);
+        let lent = label.clone();
+        let plain = wanted.made(reference::format, self.plain.image.lend(image), label.bytes());
+        let proved = wanted.made(flex::entry::format, self.proved.image.lend(image), lent.bytes());
+        let made = Made::Format { image, last, per, label: label.len(), volume, date };
+        self.compare(made, plain, proved)?;
+        if let Some(difference) = label.difference(&lent) {
+            return Err(self.mismatch(made, describe("label", difference)));
+        }
+        if plain == 0 {
+            self.must_be_blank(made, image, last * per)?;
+        } else if before != self.proved.image {
+            return Err(self.misdeed(made, "a format was refused and changed the image"));
+        }
+        self.tally.count(FORMAT, plain);
+        self.tally.note_format(&formatted, plain);
+        Ok(plain)
+    }
+
+    /// 02, ticket 2: "The census must accept every blank diskette, with the numbers in rising order." All sectors are free.
+    fn must_be_blank(&mut self, made: Made, image: usize, data_sectors: usize) -> Checked<()> {
+        let rising = (0..data_sectors as u16).map(|sector| Held { sector, owner: 0 });
+        match flex::survey(self.proved.image.lend(image)) {
+            Ok(listed) if listed.iter().copied().eq(rising) => Ok(()),
+            Ok(_) => {
+                Err(self.misdeed(made, "the census of a blank diskette does not list free sectors in rising order"))
+            }
+            Err(refusal) => Err(self.misdeed(made, &format!("the census refuses a blank diskette: {}", refusal))),
+        }
+    }
+
     /// The answers, then both buffers whole.
     fn compare(&mut self, made: Made, plain: u32, proved: u32) -> Checked<()> {
         if self.recent.len() == SHOWN {
@@ -199,7 +238,16 @@ impl<'a> Pair<'a> {
     }
 
     fn mismatch(&self, made: Made, what: String) -> Mismatch {
-        let mut text = format!("the reference and the archive differ\n  in {:?}\n  {}\n  after the calls", made, what);
+        self.told(format!("the reference and the archive differ\n  in {:?}\n  {}", made, what))
+    }
+
+    fn misdeed(&self, made: Made, what: &str) -> Mismatch {
+        self.told(format!("{}\n  in {:?}", what, made))
+    }
+
+    /// With the calls that led to it.
+    fn told(&self, mut text: String) -> Mismatch {
+        text.push_str("\n  after the calls");
         for earlier in &self.recent {
             let _ = write!(text, "\n    {:?}", earlier);
         }

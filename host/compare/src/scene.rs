@@ -3,6 +3,7 @@
 
 use crate::pair::{Checked, Mismatch, Pair};
 use crate::random::Random;
+use crate::wanted::Wanted;
 use flex::{Name, Steps, ACTIVITY, ATTRIBUTES, BLOCK, BLOCKS, FUNCTION, INDEX, NAME, NEXT_BYTE};
 
 pub type Address = (u8, u8);
@@ -51,13 +52,22 @@ pub const IDLE: &[u8] = &[0, 16];
 pub struct Scene<'a> {
     pub pair: Pair<'a>,
     pub random: Random,
-    /// M and S as the diskette was made.
+    /// M and S as the diskette was made or last formatted.
     pub last: usize,
     pub per: usize,
-    /// The directory's sectors as it was made.
+    /// The directory's sectors likewise.
     directory: Vec<usize>,
     /// Whether transfers pass over the middle of each sector, so that long files take few calls.
     skips: bool,
+}
+
+/// A scene as it was once: both buffers, and what is known of the diskette.
+pub struct Snapshot {
+    image: Vec<u8>,
+    table: Vec<u8>,
+    last: usize,
+    per: usize,
+    directory: Vec<usize>,
 }
 
 impl<'a> Scene<'a> {
@@ -182,20 +192,55 @@ impl<'a> Scene<'a> {
         }
     }
 
-    /// Both buffers as they are now.
-    pub fn snapshot(&self) -> (Vec<u8>, Vec<u8>) {
-        (self.pair.image().to_vec(), self.pair.table().to_vec())
+    pub fn snapshot(&self) -> Snapshot {
+        Snapshot {
+            image: self.pair.image().to_vec(),
+            table: self.pair.table().to_vec(),
+            last: self.last,
+            per: self.per,
+            directory: self.directory.clone(),
+        }
     }
 
-    pub fn restore(&mut self, (image, table): (Vec<u8>, Vec<u8>)) {
-        self.pair.poke_image(0, &image);
-        self.pair.poke_table(0, &table);
+    pub fn restore(&mut self, before: Snapshot) {
+        self.pair.poke_image(0, &before.image);
+        self.pair.poke_table(0, &before.table);
+        self.last = before.last;
+        self.per = before.per;
+        self.directory = before.directory;
     }
 
     /// A blank diskette again, directory and all.
-    pub fn reformat(&mut self) {
+    pub fn clear(&mut self) {
         let image = diskettes::with_directory(self.last, self.per, &self.directory);
         self.pair.poke_image(0, &image);
+    }
+
+    // Shapes.
+
+    /// The directory that format makes.
+    pub fn upward(per: usize) -> Vec<usize> {
+        (5..=per).collect()
+    }
+
+    /// All M and S with which an image of this length can be a diskette.
+    pub fn fitting_shapes(&self) -> Vec<(usize, usize)> {
+        let sectors = (self.last + 1) * self.per;
+        let fits = |per: &usize| sectors % per == 0 && (2..=80).contains(&(sectors / per));
+        (5..=36).filter(fits).map(|per| (sectors / per - 1, per)).collect()
+    }
+
+    /// The service formats the image: often as it was made, else in any shape that fits. The blocks stay as they are.
+    pub fn format(&mut self) -> Checked<()> {
+        let shapes = self.fitting_shapes();
+        let other = self.random.one_of(&shapes);
+        let (last, per) = if self.random.chance(50) { (self.last, self.per) } else { other };
+        let wanted = Wanted::of(&mut self.random, last, per);
+        self.pair.format_lent(wanted.image_bytes(), &wanted)?;
+        self.last = last;
+        self.per = per;
+        self.directory = Scene::upward(per);
+        Ok(())
     }
 
     // Names.

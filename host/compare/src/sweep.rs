@@ -1,14 +1,15 @@
-//! What is tried in full and not at random: every shape and every shape just past the limits, every function code, every
-//! byte in every place of a name, every directory place, every attribute byte, every offset of preset, every code of a
-//! default extension, every number and length of the error text.
+//! What is tried in full and not at random: every shape, formatted, and every shape just past the limits, every function code,
+//! every byte in every place of a name, every directory place, every attribute byte, every offset of preset, every code of a
+//! default extension, every number and length of the error text; of format also wrong numbers and lengths of many kinds.
 
 use crate::pair::{Checked, Pair};
 use crate::random::Random;
 use crate::scene::{Scene, SLOT_ATTRIBUTES};
 use crate::tally::Tally;
+use crate::wanted::{no_last_tracks, no_per_tracks, Wanted, LABEL, NO_LABELS};
 use flex::{
     Steps, ACTIVITY, BLOCK, CLOSE, DELETE, EXTENSION, INDEX, NAME, NEW_NAME, NEXT_BYTE, NEXT_SLOT, OPEN_DIRECTORY,
-    OPEN_READ, OPEN_WRITE, PLACE, POSITION, READ_SECTOR, RENAME, TABLE,
+    OPEN_READ, OPEN_WRITE, PLACE, POSITION, READ_SECTOR, RENAME, SECTOR, TABLE,
 };
 
 pub fn everything(tally: &mut Tally, seed: u64) -> Checked<()> {
@@ -20,7 +21,8 @@ pub fn everything(tally: &mut Tally, seed: u64) -> Checked<()> {
     letters(tally)?;
     places(tally)?;
     attributes(tally)?;
-    past_the_limits(tally)?;
+    formats(tally, &mut random)?;
+    past_the_limits(tally, &mut random)?;
     shapes(tally, &mut random)
 }
 
@@ -152,8 +154,42 @@ fn extensions(tally: &mut Tally) -> Checked<()> {
     Ok(())
 }
 
+/// Format with wrong shapes, and of right ones with images and labels of wrong lengths.
+fn formats(tally: &mut Tally, random: &mut Random) -> Checked<()> {
+    for (last, per) in [(1, 5), (12, 5), (5, 12)] {
+        let lengths = image_lengths(last, per);
+        let longest = lengths.iter().max().copied().unwrap_or(0);
+        let mut pair = Pair::new(&vec![random.byte(); longest], &[0; TABLE], tally);
+        for shape in shapes_around(last, per) {
+            for &image in &lengths {
+                for label in NO_LABELS.into_iter().chain([LABEL]) {
+                    pair.format_lent(image, &Wanted::labelled(random, shape.0, shape.1, label))?;
+                }
+            }
+        }
+    }
+    Ok(())
+}
+
+/// The right length for this shape, and wrong ones: that of the shape the other way round is among them.
+fn image_lengths(last: usize, per: usize) -> [usize; 10] {
+    let track = per * SECTOR;
+    let right = (last + 1) * track;
+    let turned = (per + 1) * last * SECTOR;
+    let near = [right - 1, right + 1, right - SECTOR, right + SECTOR, right - track, right + track];
+    let [a, b, c, d, e, f] = near;
+    [right, 0, 552, turned, a, b, c, d, e, f]
+}
+
+/// This shape, and all in which M, S or both are past the limits.
+fn shapes_around(last: usize, per: usize) -> Vec<(usize, usize)> {
+    let (no_last, no_per) = (no_last_tracks(last), no_per_tracks(per));
+    let lasts = [last].into_iter().chain(no_last);
+    lasts.flat_map(|last| [per].into_iter().chain(no_per.clone()).map(move |per| (last, per))).collect()
+}
+
 /// Images whose length fits their M and S, where M or S is one past a limit: all is refused.
-fn past_the_limits(tally: &mut Tally) -> Checked<()> {
+fn past_the_limits(tally: &mut Tally, random: &mut Random) -> Checked<()> {
     let wide = (4..=37).map(|per| (80, per)).chain((4..=37).map(|per| (0, per)));
     let tall = (1..=79).map(|last| (last, 4)).chain((1..=79).map(|last| (last, 37)));
     for (last, per) in wide.chain(tall) {
@@ -169,17 +205,21 @@ fn past_the_limits(tally: &mut Tally) -> Checked<()> {
         }
         let bytes = 2 * last * per;
         pair.census_lent(image.len(), bytes, bytes, 1)?;
+        pair.format_lent(image.len(), &Wanted::of(random, last, per))?;
     }
     Ok(())
 }
 
-/// On every diskette: a file, the last sector and the ones that do not exist, the end of the directory, the census.
+/// Every diskette, formatted over an image in which every byte was in use: a file, the last sector and the ones that do not
+/// exist, the end of the directory, the census.
 fn shapes(tally: &mut Tally, random: &mut Random) -> Checked<()> {
     for last in 1..=79 {
         for per in 5..=36 {
-            let upward: Vec<usize> = (5..=per).collect();
-            let pair = Pair::new(&diskettes::blank(last, per), &[0; TABLE], tally);
-            shape(&mut Scene::new(pair, Random::new(random.next()), last, per, upward))?;
+            let wanted = Wanted::of(random, last, per);
+            let used = vec![random.between(1, 255) as u8; wanted.image_bytes()];
+            let mut pair = Pair::new(&used, &[0; TABLE], tally);
+            pair.format_lent(used.len(), &wanted)?;
+            shape(&mut Scene::new(pair, Random::new(random.next()), last, per, Scene::upward(per)))?;
         }
     }
     Ok(())

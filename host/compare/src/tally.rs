@@ -1,15 +1,16 @@
 //! What the run has reached: each answer of each function, and the situations that are easy to get wrong.
 
-use crate::seen::{After, Surveyed, CALL_SITUATIONS, CENSUS_SITUATIONS};
+use crate::seen::{After, Formatted, Surveyed, CALL_SITUATIONS, CENSUS_SITUATIONS, FORMAT_SITUATIONS};
 use flex::{ACTIVITY, FUNCTION};
 use std::fmt::Write;
 
 /// Each function with every answer that documents 01 and 02 let it give, in their order: each must occur, and no other may.
-const EXPECTED: [(&str, &[u32]); 18] = [
+const EXPECTED: [(&str, &[u32]); 19] = [
     ("preset", &[13, 18, 0]),
     ("default extension", &[13, 0]),
     ("error text", &[40, 0]),
     ("census", &[41, 40, 42, 43, 44, 45, 46, 0]),
+    ("format", &[41, 40, 0]),
     ("call, no such table or block", &[13]),
     ("call, code not served", &[16, 1]),
     ("0 reading", &[16, 8, 9, 0]),
@@ -30,27 +31,28 @@ pub const PRESET: usize = 0;
 pub const EXTENSION: usize = 1;
 pub const ERROR_TEXT: usize = 2;
 pub const CENSUS: usize = 3;
+pub const FORMAT: usize = 4;
 
 /// The row of an FMS call, by the block as the call finds it.
 pub fn row_of_call(table: &[u8], fcb: usize) -> usize {
     if table.len() != flex::TABLE || fcb >= flex::BLOCKS {
-        return 4;
+        return 5;
     }
     let block = &table[fcb * flex::BLOCK..];
     match (block[FUNCTION], block[ACTIVITY]) {
-        (0, 1) => 6,
-        (0, 2) => 7,
-        (0, _) => 8,
-        (1, _) => 9,
-        (2, _) => 10,
-        (4, _) => 11,
-        (5, _) => 12,
-        (6, _) => 13,
-        (7, _) => 14,
-        (9, _) => 15,
-        (12, _) => 16,
-        (13, _) => 17,
-        _ => 5,
+        (0, 1) => 7,
+        (0, 2) => 8,
+        (0, _) => 9,
+        (1, _) => 10,
+        (2, _) => 11,
+        (4, _) => 12,
+        (5, _) => 13,
+        (6, _) => 14,
+        (7, _) => 15,
+        (9, _) => 16,
+        (12, _) => 17,
+        (13, _) => 18,
+        _ => 6,
     }
 }
 
@@ -60,6 +62,7 @@ pub struct Tally {
     answers: [[u64; 64]; EXPECTED.len()],
     call_situations: Vec<u64>,
     census_situations: Vec<u64>,
+    format_situations: Vec<u64>,
 }
 
 impl Tally {
@@ -69,6 +72,7 @@ impl Tally {
             answers: [[0; 64]; EXPECTED.len()],
             call_situations: vec![0; CALL_SITUATIONS.len()],
             census_situations: vec![0; CENSUS_SITUATIONS.len()],
+            format_situations: vec![0; FORMAT_SITUATIONS.len()],
         }
     }
 
@@ -78,15 +82,15 @@ impl Tally {
     }
 
     pub fn note_call(&mut self, after: &After) {
-        for (count, (_, met)) in self.call_situations.iter_mut().zip(CALL_SITUATIONS) {
-            *count += met(after) as u64;
-        }
+        count_met(&mut self.call_situations, CALL_SITUATIONS, |met| met(after));
     }
 
     pub fn note_census(&mut self, surveyed: &Surveyed, answer: u32) {
-        for (count, (_, met)) in self.census_situations.iter_mut().zip(CENSUS_SITUATIONS) {
-            *count += met(surveyed, answer) as u64;
-        }
+        count_met(&mut self.census_situations, CENSUS_SITUATIONS, |met| met(surveyed, answer));
+    }
+
+    pub fn note_format(&mut self, formatted: &Formatted, answer: u32) {
+        count_met(&mut self.format_situations, FORMAT_SITUATIONS, |met| met(formatted, answer));
     }
 
     /// Answers by function, as "answer ×count".
@@ -103,9 +107,10 @@ impl Tally {
     }
 
     fn situations(&self) -> impl Iterator<Item = (&'static str, u64)> + '_ {
-        let of_calls = CALL_SITUATIONS.iter().map(|row| row.0).zip(self.call_situations.iter().copied());
-        let of_census = CENSUS_SITUATIONS.iter().map(|row| row.0).zip(self.census_situations.iter().copied());
-        of_calls.chain(of_census)
+        let of_calls = counted(&self.call_situations, CALL_SITUATIONS);
+        let of_census = counted(&self.census_situations, CENSUS_SITUATIONS);
+        let of_format = counted(&self.format_situations, FORMAT_SITUATIONS);
+        of_calls.chain(of_census).chain(of_format)
     }
 
     /// Each situation with its count.
@@ -135,4 +140,19 @@ impl Tally {
         faults.extend(missed.map(|(name, _)| format!("did not occur: {}", name)));
         faults
     }
+}
+
+/// One more for each situation whose test is met.
+fn count_met<T>(counts: &mut [u64], situations: &[(&str, T)], is_met: impl Fn(&T) -> bool) {
+    for (count, (_, test)) in counts.iter_mut().zip(situations) {
+        *count += is_met(test) as u64;
+    }
+}
+
+/// Each situation's name with its count.
+fn counted<'a, T: 'static>(
+    counts: &'a [u64],
+    situations: &'static [(&'static str, T)],
+) -> impl Iterator<Item = (&'static str, u64)> + 'a {
+    situations.iter().map(|row| row.0).zip(counts.iter().copied())
 }

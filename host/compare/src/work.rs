@@ -1,7 +1,9 @@
-//! What a host does: files written, read, deleted and renamed, the directory walked, and calls with wrong lengths and numbers.
+//! What a host does: files written, read, deleted and renamed, the directory walked, the diskette formatted, and calls with wrong
+//! lengths and numbers.
 
 use crate::pair::Checked;
 use crate::scene::{Scene, IDLE, SLOT_ATTRIBUTES};
+use crate::wanted::{no_last_tracks, no_per_tracks, Wanted, LABEL, NO_LABELS};
 use flex::{
     Steps, BLOCK, BLOCKS, CLOSE, DELETE, DRIVE, EXTENSION, NAME, NEW_NAME, NEXT_SLOT, OPEN_DIRECTORY, OPEN_WRITE,
     POSITION, READ_SECTOR, RENAME, REWIND, TABLE,
@@ -16,7 +18,7 @@ const PAST: [usize; 6] = [320, 65536, 1 << 32, (1 << 32) + 4, usize::MAX, usize:
 impl Scene<'_> {
     /// One thing that a host would do.
     pub fn work(&mut self) -> Checked<()> {
-        match self.random.below(35) {
+        match self.random.below(36) {
             0..=5 => self.write_file(),
             6..=8 => self.write_on(),
             9..=12 => self.read_file(),
@@ -33,6 +35,7 @@ impl Scene<'_> {
             30..=31 => self.any_function(),
             32 => self.leave_holes(),
             33 => self.protect(),
+            34 => self.begin_anew(),
             _ => self.wrong_lengths(),
         }
     }
@@ -171,6 +174,19 @@ impl Scene<'_> {
         Ok(())
     }
 
+    /// A format that is refused, or one that a host asks for as it should: after it has closed all blocks.
+    fn begin_anew(&mut self) -> Checked<()> {
+        if self.random.chance(60) {
+            return self.wrong_format();
+        }
+        for fcb in 0..BLOCKS {
+            if self.activity(fcb) != 0 {
+                self.ask(fcb, CLOSE)?;
+            }
+        }
+        self.format()
+    }
+
     /// The diskette or the directory until it is full.
     fn fill(&mut self) -> Checked<()> {
         if self.random.chance(50) || self.last * self.per > 20 {
@@ -255,6 +271,19 @@ impl Scene<'_> {
             self.pair.preset_lent(table, fcb, if offset == 3 { past } else { offset }, byte)?;
             self.pair.extension_lent(table, fcb, if offset < 16 { offset } else { past })?;
         }
+        Ok(())
+    }
+
+    /// A format that is refused for its shape, its image, its label, or several of them.
+    fn wrong_format(&mut self) -> Checked<()> {
+        let (no_last, no_per) = (no_last_tracks(self.last), no_per_tracks(self.per));
+        let last = if self.random.chance(30) { self.random.one_of(&no_last) } else { self.last };
+        let per = if self.random.chance(30) { self.random.one_of(&no_per) } else { self.per };
+        let image = self.image_length();
+        let is_right = (last, per, image) == (self.last, self.per, self.pair.image().len());
+        let label = if is_right || self.random.chance(30) { self.random.one_of(&NO_LABELS) } else { LABEL };
+        let wanted = Wanted::labelled(&mut self.random, last, per, label);
+        self.pair.format_lent(image, &wanted)?;
         Ok(())
     }
 }

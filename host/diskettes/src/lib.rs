@@ -1,68 +1,62 @@
-//! Blank diskette images, for the tests, the benchmark and the demo diskette.
-//!
-//! The service has no entry that formats, so these are laid out here by document 01, "Image": the directory's sectors are
-//! linked upward from (0, 5), the data sectors by rising track and then sector, and every other byte is zero.
+//! Blank diskette images, for the tests, the benchmark and the demo diskette: as the service formats them, with a label, a
+//! volume number and a date of zeros, and with other directories than it makes, as another maker's formatter may leave them.
 
 #![forbid(unsafe_code)]
 
-/// Where the information record, sector (0, 3), begins.
-pub const INFORMATION: usize = 2 * 256;
+use flex::{Address, Diskette, Shape};
 
-/// Where sector (track, sector) begins on a diskette of `per` sectors a track.
+/// The directory's first sector on track 0.
+const FIRST_OF_DIRECTORY: usize = 5;
+
+/// Where sector (track, sector) begins on a diskette of `per` sectors a track, whatever its last track is.
 pub fn offset(per: usize, track: usize, sector: usize) -> usize {
-    (track * per + sector - 1) * 256
+    let shape = Shape { last: track as u8, per: per as u8 };
+    shape.offset(Address::new(track as u8, sector as u8))
 }
 
 /// A blank diskette with the last track `last`, `per` sectors a track, and all of (0, 5) to (0, `per`) for its directory.
 pub fn blank(last: usize, per: usize) -> Vec<u8> {
-    let upward: Vec<usize> = (5..=per).collect();
-    with_directory(last, per, &upward)
+    let blank = Diskette::blank(last, per, &[0; 11], 0, [0; 3]);
+    blank.expect("a diskette has 2 to 80 tracks of 5 to 36 sectors").into_buffers().0
 }
 
 /// The same with these sectors of track 0 for its directory, in this order. The first must be 5.
 pub fn with_directory(last: usize, per: usize, directory: &[usize]) -> Vec<u8> {
-    let mut image = vec![0; (last + 1) * per * 256];
-    for pair in directory.windows(2) {
-        image[offset(per, 0, pair[0]) + 1] = pair[1] as u8;
+    let mut image = blank(last, per);
+    for sector in FIRST_OF_DIRECTORY..=per {
+        link(&mut image, per, sector, 0);
     }
-    link_free_chain(&mut image, last, per);
-    let count = ((last * per) as u16).to_be_bytes();
-    image[INFORMATION + 29..INFORMATION + 35].copy_from_slice(&[1, 1, last as u8, per as u8, count[0], count[1]]);
-    image[INFORMATION + 38] = last as u8;
-    image[INFORMATION + 39] = per as u8;
+    for pair in directory.windows(2) {
+        link(&mut image, per, pair[0], pair[1]);
+    }
     image
 }
 
-/// Each data sector links to the next, the last one to 0,0.
-fn link_free_chain(image: &mut [u8], last: usize, per: usize) {
-    let addresses: Vec<(usize, usize)> =
-        (1..=last).flat_map(|track| (1..=per).map(move |sector| (track, sector))).collect();
-    for pair in addresses.windows(2) {
-        let at = offset(per, pair[0].0, pair[0].1);
-        image[at] = pair[1].0 as u8;
-        image[at + 1] = pair[1].1 as u8;
-    }
+/// Links a sector of track 0 to another one of it; 0 ends the chain.
+fn link(image: &mut [u8], per: usize, from: usize, to: usize) {
+    let at = offset(per, 0, from);
+    image[at..at + 2].copy_from_slice(&[0, to as u8]);
 }
 
 #[cfg(test)]
 mod tests {
     use super::*;
 
-    #[test]
-    fn the_five_sector_diskette() {
-        let image = blank(1, 5);
-        assert_eq!(image.len(), 2560);
-        assert_eq!(image[541..547], [1, 1, 1, 5, 0, 5]);
-        assert_eq!(image[550..552], [1, 5]);
-        assert_eq!(image[offset(5, 1, 1)..][..2], [1, 2]);
-        assert_eq!(image[offset(5, 1, 5)..][..2], [0, 0]);
+    /// Each slot's directory sector, in the order in which the service shows them.
+    fn sectors_of_slots(image: Vec<u8>) -> Vec<u8> {
+        let slots = Diskette::new(image).slots().expect("the directory is right");
+        slots.iter().map(|slot| slot.place.sector.sector).collect()
     }
 
     #[test]
-    fn chains_cross_tracks_and_directories_link_upward() {
-        let image = blank(3, 8);
-        assert_eq!(image[offset(8, 1, 8)..][..2], [2, 1]);
-        assert_eq!(image[offset(8, 0, 5)..][..2], [0, 6]);
-        assert_eq!(image[offset(8, 0, 8)..][..2], [0, 0]);
+    fn the_directory_has_the_sectors_that_are_asked_for_in_their_order() {
+        assert_eq!(sectors_of_slots(with_directory(2, 8, &[5])), [5; 10]);
+        let three: Vec<u8> = [5, 8, 6].iter().flat_map(|&sector| [sector; 10]).collect();
+        assert_eq!(sectors_of_slots(with_directory(2, 8, &[5, 8, 6])), three);
+    }
+
+    #[test]
+    fn with_the_sectors_upward_it_is_the_blank_diskette() {
+        assert_eq!(with_directory(3, 8, &[5, 6, 7, 8]), blank(3, 8));
     }
 }

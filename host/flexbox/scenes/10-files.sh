@@ -204,11 +204,28 @@ for zone in EAST-14 WEST+12 UTC0; do
     grep TODAY.TXT out | grep -qF -e "$before" -e "$after" || fail "TZ=$zone: not today: $(grep TODAY.TXT out)"
 done
 
-# ---- the main job, told step by step
+# ---- the main job, told step by step: a new diskette is filled, and a file comes and goes on one that is in use
 fresh
-does demo disk
+does demo disk new
+[ "$(sed -n 3p out)" = "new: blank, 3 tracks of 6 sectors, 4608 bytes, 12 sectors free" ] || fail "not formatted: $(cat out)"
+shows "3 files in 20 slots; 0 deleted, 17 never used"
+shows ".  free          0 sectors"
+[ "$(grep -c ' bytes, as they were written$' out)" = 3 ] || fail "not read back: $(cat out)"
 shows "02:15 CREW AT AMPLIFIER 14"
 [ "$(grep -c 'NIGHT.TXT' out)" = 5 ] || fail "NIGHT.TXT is not listed, drawn and gone again: $(cat out)"
 does list disk
 hides NIGHT.TXT
 does check disk
+does check new
+shows "new: clean, 3 files, 12 of 12 sectors used, 0 free"
+does get --trim new WEST.TXT
+[ "$(wc -c <out)" = 200 ] || fail "WEST.TXT has $(wc -c <out) bytes"
+[ "$(head -n 1 out)" = "00:00 WEST AMPLIFIER 1 LEVEL LOW" ] || fail "WEST.TXT begins with $(head -n 1 out)"
+cp new new.before
+refuses 3 "flexbox: new: it is there already; demo needs a NEW that is not there yet" demo disk new
+cmp new new.before
+ln -s nowhere link
+for new in . /dev/null link disk; do
+    refuses 3 "flexbox: $new: it is there already; demo needs a NEW that is not there yet" demo disk $new
+done
+[ -L link ] && [ ! -e nowhere ] || fail "a link that leads nowhere was followed or replaced"

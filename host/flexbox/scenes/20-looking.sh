@@ -78,7 +78,7 @@ does help
 shows "usage:"
 does --version
 grep -qx 'flexbox [0-9]*\.[0-9]*\.[0-9]*, flex [0-9]*\.[0-9]*\.[0-9]*' out || fail "the version: $(cat out)"
-for command in list info check census get put delete rename dump report demo; do
+for command in list info check census get put delete rename format dump report demo; do
     does help "$command"
     shows "usage: flexbox $command "
     does "$command" --help
@@ -91,8 +91,8 @@ shows "usage: flexbox list "
 refuses 2 "too many words; usage: flexbox help [COMMAND]" help list disk
 refuses 2 "too many words" --version disk
 refuses 2 "no command"
-refuses 2 "no command 'format'" format disk
-refuses 2 "no command 'format'" help format
+refuses 2 "no command 'erase'" erase disk
+refuses 2 "no command 'erase'" help erase
 refuses 2 "wrong number of words" list
 refuses 2 "wrong number of words" list disk disk
 refuses 2 "wrong number of words" rename disk NORTH.TXT
@@ -105,13 +105,7 @@ refuses 2 "standard input is empty" put disk A.TXT </dev/null
 
 # ---- what can't be printed is a failure; a reader who has seen enough is none
 if [ -c /dev/full ]; then
-    for command in list info check census report; do
-        status=0
-        limited "${flexbox[@]}" "$command" disk >/dev/full 2>err || status=$?
-        [ "$status" = 3 ] || fail "status $status where standard output is full: $command"
-        says "flexbox: standard output: No space left"
-        checks=$((checks + 1))
-    done
+    for command in list info check census report; do unprinted "flexbox: standard output: No space left" $command disk; done
 fi
 # The reader is gone before the first byte: the FIFO is opened for both, and then for writing alone.
 mkfifo gone

@@ -9,19 +9,30 @@ closed_folder() {
     "$@" cp "$demo" closed/disk
     chmod 644 closed/disk
     chmod 300 closed
-    refuses 3 "closed: it could not be synced" put closed/disk NEW.TXT <lines
+    refuses 3 "flexbox: closed/disk: not changed: its folder can't be opened to be synced: Permission denied" put closed/disk NEW.TXT <lines
+    refuses 3 "flexbox: closed/new: not made: its folder can't be opened to be synced: Permission denied" format closed/new
 
     # ---- who may make no new file there hears of the image, and not of a file that he does not know
     chmod 500 closed
     refuses 3 "flexbox: closed/disk: not changed: a new image can't be made in its folder: Permission denied" \
         put closed/disk NEW.TXT <lines
+    refuses 3 "flexbox: closed/disk: not changed: a new image can't be made in its folder: Permission denied" \
+        format --replace closed/disk
+    refuses 3 "flexbox: closed/new: not made: a new image can't be made in its folder: Permission denied" format closed/new
     cmp closed/disk "$demo"
+    [ "$(ls -A closed)" = disk ] || fail "made in a folder that can't be written: $(ls -A closed)"
     chmod 700 closed
     "$@" touch closed/there
     chmod 500 closed
     refuses 3 "flexbox: closed/there: a new file can't be made beside it: Permission denied" \
         get --replace closed/disk NORTH.TXT=closed/there
     chmod 700 closed
+}
+
+# foretold TEXT PLACE: without --replace it is said why that would refuse what is there, and so it does
+foretold() {
+    refuses 3 "flexbox: $2: it is there already, and --replace would refuse it: $1" format "$2"
+    refuses 3 "flexbox: $2: $1" format --replace "$2"
 }
 
 # ---- a link stays a link, the mode stays, and nothing is left behind
@@ -33,6 +44,20 @@ does delete link NORTH.TXT
 [ "$(stat -c %a disk)" = 640 ] || fail "the mode changed"
 does list disk
 hides NORTH.TXT
+fresh
+refuses 3 "flexbox: link: it is there already; --replace would replace it, and all files on it would be lost" format link
+does format --replace link
+[ -L link ] || fail "the link was replaced"
+does check disk
+shows "disk: clean, 0 files"
+
+# ---- a link that leads nowhere is no place for a new image, and stays
+rm disk
+refuses 3 "flexbox: link: it is there already, and --replace would refuse it: a link that leads nowhere" format link
+refuses 3 "flexbox: link: No such file" format --replace link
+[ -L link ] && [ ! -e disk ] || fail "a link that leads nowhere was followed or replaced"
+ln -sfn link link
+foretold "Too many levels of symbolic links" link
 rm link
 
 # ---- the owner stays
@@ -41,6 +66,8 @@ if [ "$(id -u)" = 0 ]; then
     chown 4321:8765 disk
     chmod 6775 disk # a change of the owner takes the first of these bits away
     does put disk NEW.TXT <lines
+    [ "$(stat -c %u:%g:%a disk)" = 4321:8765:6775 ] || fail "owner and mode are now $(stat -c %u:%g:%a disk)"
+    does format --replace disk
     [ "$(stat -c %u:%g:%a disk)" = 4321:8765:6775 ] || fail "owner and mode are now $(stat -c %u:%g:%a disk)"
 
     # ---- who can't keep the owner does not change the image
@@ -76,6 +103,7 @@ chmod 444 disk
 refuses 3 "write-protect tab" put disk NEW.TXT <lines
 refuses 3 "write-protect tab" delete disk NORTH.TXT
 refuses 3 "write-protect tab" put --force disk NEW.TXT <lines
+foretold "it has no write permission, which is a diskette's write-protect tab; not changed" disk
 does list disk
 does check disk
 chmod 644 disk
@@ -83,6 +111,7 @@ chmod 644 disk
 # ---- a second name of the same file would keep the old image
 ln disk second
 refuses 3 "2 hard links" put disk NEW.TXT <lines
+foretold "it has 2 hard links, and a new file under one of its names would part them; not changed" disk
 does get disk NORTH.TXT
 rm second
 does put disk NEW.TXT <lines
@@ -105,9 +134,14 @@ does get --trim disk PIPE.TXT
 cmp out lines
 refuses 3 "pipe: not a regular file" list pipe
 refuses 3 "pipe: not a regular file" put pipe A.TXT <lines
+foretold "not a regular file" pipe
+foretold "not a regular file" /dev/null
 mkdir folder
 refuses 3 "folder: not a regular file" list folder
 refuses 3 "folder" put disk A.TXT=folder
+foretold "not a regular file" folder
+ln -s folder link
+foretold "not a regular file" link
 rm disk
 truncate -s 200G huge
 refuses 1 "DISK ERROR #016: not the image of a diskette, or drive not 0 (huge, more than 737,280 bytes)" list huge
@@ -121,3 +155,22 @@ long=$(printf 'd%.0s' $(seq 255))
 mv disk "$long"
 does put "$long" NEW.TXT <lines
 rm "$long"
+does format "$long"
+does format --replace "$long"
+rm "$long"
+refuses 3 "flexbox: ${long}d: File name too long" format "${long}d"
+
+# ---- a new image has the mode of any new file; where it can't be, none is made
+mkdir new
+mask=$(umask)
+umask 027
+does format new/../disk
+does format new/disk
+umask "$mask"
+[ "$(stat -c %a disk new/disk | uniq)" = 640 ] || fail "the modes are $(stat -c %a disk new/disk)"
+refuses 3 "flexbox: nowhere/disk: not made: its folder can't be opened to be synced: No such file" format nowhere/disk
+refuses 3 "flexbox: nowhere/disk: not made: its folder can't be opened to be synced: No such file" format --replace nowhere/disk
+refuses 3 "flexbox: lines/disk: Not a directory" format lines/disk
+refuses 3 "flexbox: nowhere/: not made: Not a directory" format nowhere/
+refuses 3 "not made: No such file" format ""
+[ ! -e nowhere ] || fail "a folder was made"

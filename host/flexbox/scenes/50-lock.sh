@@ -30,6 +30,25 @@ for i in 1 2 3 4 5 6 7 8; do
 done
 does check disk
 
+# ---- of eight that format one new image at once, one makes it, and the others say that it is there
+rm disk
+for i in 1 2 3 4 5 6 7 8; do
+    (
+        status=0
+        limited "${flexbox[@]}" format --tracks "$((i + 1))" disk >"out$i" 2>"err$i" || status=$?
+        echo $status >"status$i"
+    ) &
+done
+wait
+[ "$(cat status? | sort | tr '\n' ' ')" = "0 3 3 3 3 3 3 3 " ] || fail "eight formats end with $(cat status? | tr '\n' ' ')"
+for i in 1 2 3 4 5 6 7 8; do
+    [ "$(cat "status$i")" = 0 ] || grep -qE 'there (already|meanwhile)' "err$i" || fail "format $i of eight: $(cat "err$i")"
+done
+does check disk
+sectors=$(($(stat -c %s disk) / 256))
+[ "$(cat out?)" = "disk: blank, $((sectors / 10)) tracks of 10 sectors, $((sectors * 256)) bytes, $((sectors - 10)) sectors free" ] ||
+    fail "not the one who says so made it: $(cat out?)"
+
 # ---- while another program has the lock: wait, say so, give up with status 4
 if command -v flock >/dev/null; then
     fresh
@@ -39,6 +58,8 @@ if command -v flock >/dev/null; then
     says "waiting up to 1 s"
     refuses 4 "another program still has it locked after 0 s" delete --wait 0 disk NORTH.TXT
     refuses 4 "another program" list --wait 0 disk
+    refuses 4 "another program still has it locked after 0 s" format --replace --wait 0 disk
+    refuses 3 "it is there already" format --wait 60 disk
     refuses 4 "another program still has it locked after 5 s" put disk NEW.TXT <"$demo"
     says "waiting up to 5 s"
 

@@ -91,6 +91,42 @@ if [ -n "$witness" ]; then
     says "write-protect tab"
     cmp disk other.before
 
+    # ---- format --replace, too, takes the place of the image that is there by then
+    two
+    witnessed WITNESS_AT_LOCK="other disk" -- format --replace disk
+    ended 0
+    does check disk
+    shows "disk: clean, 0 files"
+    fresh
+    witnessed WITNESS_AT_LOCK="disk gone" -- format --replace disk
+    ended 3
+    says "flexbox: disk: No such file"
+    cmp gone "$demo"
+
+    # ---- a file that comes to where format is about to put a new one stays, with --replace too, and on a file system that has no
+    # rename which replaces nothing
+    for way in WITNESS_NO_MOVES=0 WITNESS_NO_MOVES=1; do
+        for option in --replace --; do
+            rm -f disk
+            cp "$demo" other
+            witnessed $way WITNESS_AT_MOVE="other disk" -- format $option disk
+            ended 3
+            says "flexbox: disk: another file was put there meanwhile; not made"
+            cmp disk "$demo"
+            left=$(find . -name '*.new')
+            [ -z "$left" ] || fail "left behind by format: $left"
+        done
+    done
+
+    # ---- so does one that comes to where demo is about to put its own
+    fresh
+    cp "$demo" other
+    witnessed WITNESS_AT_MOVE="other new" -- demo disk new
+    ended 3
+    says "flexbox: new: another file was put there meanwhile; not made"
+    cmp new "$demo"
+    cmp disk "$demo"
+
     # ---- on a file system without locks one looks all the same, and changes nothing
     fresh
     witnessed WITNESS_NO_LOCKS=1 -- list disk
@@ -100,6 +136,13 @@ if [ -n "$witness" ]; then
     ended 3
     says "flexbox: disk: it can't be locked"
     cmp disk "$demo"
+    witnessed WITNESS_NO_LOCKS=1 -- format --replace disk
+    ended 3
+    cmp disk "$demo"
+    rm disk
+    witnessed WITNESS_NO_LOCKS=1 -- format disk
+    ended 0
+    does check disk
 else
     echo "flexbox: no compiler here: what others do between two calls of flexbox was not tried"
 fi

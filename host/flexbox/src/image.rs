@@ -8,6 +8,7 @@ use crate::failure::{note, Failure};
 use crate::input;
 use crate::replace;
 use posix::Lock;
+use std::fmt::Display;
 use std::fs::{self, File, Metadata, OpenOptions};
 use std::io;
 use std::os::unix::fs::{MetadataExt, OpenOptionsExt};
@@ -40,6 +41,15 @@ impl Image {
         Image::open(named, Lock::Exclusive, wait)
     }
 
+    /// Why `take` would refuse what is there, as far as that can be seen without opening it.
+    pub fn unfit(named: &Path) -> Option<String> {
+        match fs::metadata(named) {
+            Ok(metadata) => suits(&metadata, Lock::Exclusive).err(),
+            Err(error) if error.kind() == io::ErrorKind::NotFound => Some("a link that leads nowhere".to_string()),
+            Err(error) => Some(error.to_string()),
+        }
+    }
+
     /// Each try begins at the name: an image that was replaced is not waited for while the new one is free.
     fn open(named: &Path, lock: Lock, wait: Duration) -> Result<Image, Failure> {
         let mut patience = Patience::new(named, wait);
@@ -47,7 +57,7 @@ impl Image {
             let image = Image::open_file(named, lock)?;
             if !image.try_lock(lock)? {
                 patience.pause()?;
-            } else if image.is_still_there().map_err(|error| failed(named, error))? {
+            } else if image.is_still_there().map_err(failed(named))? {
                 // The file may have got another mode or a second name meanwhile.
                 image.suits(lock)?;
                 return Ok(image);
@@ -56,19 +66,20 @@ impl Image {
     }
 
     fn open_file(named: &Path, lock: Lock) -> Result<Image, Failure> {
-        let failed = |error| failed(named, error);
         // A link stays a link: what it leads to is replaced.
-        let path = fs::canonicalize(named).map_err(failed)?;
-        suits(named, &fs::metadata(&path).map_err(failed)?, lock)?;
+        let path = fs::canonicalize(named).map_err(failed(named))?;
+        let metadata = fs::metadata(&path).map_err(failed(named))?;
+        suits(&metadata, lock).map_err(failed(named))?;
         // Should the path have become a FIFO by now, opening it does not wait.
         let mut options = OpenOptions::new();
         options.read(true).write(lock == Lock::Exclusive).custom_flags(posix::OPEN_WITHOUT_WAITING);
-        let file = options.open(&path).map_err(failed)?;
+        let file = options.open(&path).map_err(failed(named))?;
         Ok(Image { named: named.to_path_buf(), path, file })
     }
 
     fn suits(&self, lock: Lock) -> Result<(), Failure> {
-        suits(&self.named, &self.metadata().map_err(|error| failed(&self.named, error))?, lock)
+        let metadata = self.metadata().map_err(failed(&self.named))?;
+        suits(&metadata, lock).map_err(failed(&self.named))
     }
 
     fn try_lock(&self, lock: Lock) -> Result<bool, Failure> {
@@ -82,7 +93,7 @@ impl Image {
 
     /// The file's bytes; of one that is too large as many as show that.
     pub fn read(&self) -> Result<Vec<u8>, Failure> {
-        input::bounded(&self.file).map_err(|error| failed(&self.named, error))
+        input::bounded(&self.file).map_err(failed(&self.named))
     }
 
     /// Puts a new image in the old one's place, at once or not at all.
@@ -121,24 +132,23 @@ pub fn is_same(one: &Metadata, other: &Metadata) -> bool {
     (one.dev(), one.ino()) == (other.dev(), other.ino())
 }
 
-fn failed(named: &Path, error: io::Error) -> Failure {
-    Failure::File(format!("{}: {}", named.display(), error))
+fn failed<W: Display>(named: &Path) -> impl Fn(W) -> Failure + '_ {
+    move |why| Failure::File(format!("{}: {}", named.display(), why))
 }
 
-/// Whether this file may be opened as an image at all.
-fn suits(named: &Path, metadata: &Metadata, lock: Lock) -> Result<(), Failure> {
-    let refused = |why: String| Err(Failure::File(format!("{}: {}", named.display(), why)));
+/// Whether this file may be opened as an image at all; if not, why.
+fn suits(metadata: &Metadata, lock: Lock) -> Result<(), String> {
     if !metadata.is_file() {
-        return refused("not a regular file".to_string());
+        return Err("not a regular file".to_string());
     }
     if lock == Lock::Shared {
         return Ok(());
     }
     if metadata.mode() & 0o222 == 0 {
-        return refused("it has no write permission, which is a diskette's write-protect tab; not changed".to_string());
+        return Err("it has no write permission, which is a diskette's write-protect tab; not changed".to_string());
     }
     if metadata.nlink() > 1 {
-        return refused(format!(
+        return Err(format!(
             "it has {} hard links, and a new file under one of its names would part them; not changed",
             metadata.nlink()
         ));

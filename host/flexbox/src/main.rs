@@ -1,6 +1,6 @@
-//! flexbox: lists, reads, checks and changes the files of FLEX diskette images, by the proved service.
+//! flexbox: makes FLEX diskette images and lists, reads, checks and changes their files, by the proved service.
 //!
-//! All file work goes through the five entries of libflex.a, and whether a diskette is sound its census alone decides. `main`
+//! All of it goes through the six entries of libflex.a, and whether a diskette is sound its census alone decides. `main`
 //! finds the command and gives its exit status: 0 done; 1 refused by the service, or damaged; 2 wrong usage; 3 a file of this
 //! machine can't be read or may not be written; 4 another program has the image locked.
 

@@ -1,12 +1,15 @@
 //! The words behind a command: options and operands.
 
 use crate::failure::Failure;
-use std::ffi::OsString;
+use std::ffi::{OsStr, OsString};
+use std::ops::RangeInclusive;
 use std::path::Path;
 use std::time::Duration;
 
-/// How long a command waits for a locked image unless `--wait` says otherwise.
-const WAIT: Duration = Duration::from_secs(5);
+/// How many seconds a command waits for a locked image unless `--wait` says otherwise.
+const WAIT: u16 = 5;
+/// The options that every command has besides `--help`.
+const COMMON: &[&str] = &["--wait N"];
 
 /// A command as the table of commands has it.
 pub struct Command {
@@ -19,7 +22,7 @@ pub struct Command {
     pub details: &'static str,
     /// How many operands it takes, at least and at most.
     pub operands: (usize, usize),
-    /// The options that it has besides `--wait` and `--help`.
+    /// The options of its own: "--name", or "--name VALUE" where the next word is its value.
     pub options: &'static [&'static str],
     pub run: fn(&Words) -> Result<(), Failure>,
 }
@@ -29,25 +32,44 @@ impl Command {
     pub fn misused(&self, problem: &str) -> Failure {
         Failure::Usage(format!("{}: {}; usage: flexbox {} {}", self.name, problem, self.name, self.usage))
     }
+
+    /// The option that a word is, and whether a value follows it.
+    fn option(&self, word: &str) -> Option<(&'static str, bool)> {
+        let parts = |option: &&'static str| match option.split_once(' ') {
+            Some((name, _)) => (name, true),
+            None => (*option, false),
+        };
+        self.options.iter().chain(COMMON).map(parts).find(|(name, _)| *name == word)
+    }
 }
 
 pub struct Words {
+    command: &'static Command,
     operands: Vec<OsString>,
-    options: Vec<&'static str>,
+    /// In the order in which they were typed, with their values.
+    options: Vec<(&'static str, Option<OsString>)>,
     wait: Duration,
 }
 
 impl Words {
+    /// The same command on this image, without options and other words.
+    pub fn on(&self, image: &OsStr) -> Words {
+        Words { command: self.command, operands: vec![image.to_os_string()], options: Vec::new(), wait: self.wait }
+    }
+
     /// The words behind the command's name. None: help is asked for.
-    pub fn parse(command: &Command, words: &[OsString]) -> Result<Option<Words>, Failure> {
-        let mut parsed = Words { operands: Vec::new(), options: Vec::new(), wait: WAIT };
+    pub fn parse(command: &'static Command, words: &[OsString]) -> Result<Option<Words>, Failure> {
+        let mut parsed = Words { command, operands: Vec::new(), options: Vec::new(), wait: Duration::ZERO };
         let mut rest = words.iter();
         while let Some(word) = rest.next() {
             let text = word.to_str().unwrap_or("");
-            match command.options.iter().find(|option| **option == text) {
-                Some(option) => parsed.options.push(option),
+            match command.option(text) {
+                Some((name, false)) => parsed.options.push((name, None)),
+                Some((name, true)) => {
+                    let value = rest.next().ok_or_else(|| command.misused(&format!("no value follows '{}'", name)))?;
+                    parsed.options.push((name, Some(value.clone())));
+                }
                 None if text == "--help" || text == "-h" => return Ok(None),
-                None if text == "--wait" => parsed.wait = seconds(command, rest.next())?,
                 None if text == "--" => {
                     parsed.operands.extend(rest.by_ref().cloned());
                 }
@@ -61,11 +83,36 @@ impl Words {
         if !(least..=most).contains(&parsed.operands.len()) {
             return Err(command.misused("wrong number of words"));
         }
+        let seconds = parsed.number("--wait", "a number of seconds", 0..=u16::MAX)?.unwrap_or(WAIT);
+        parsed.wait = Duration::from_secs(seconds.into());
         Ok(Some(parsed))
     }
 
     pub fn has(&self, option: &str) -> bool {
-        self.options.contains(&option)
+        self.options.iter().any(|(name, _)| *name == option)
+    }
+
+    /// The value of an option, the last one where it was typed twice.
+    pub fn value(&self, option: &str) -> Option<&OsStr> {
+        self.options.iter().rev().find(|(name, _)| *name == option).and_then(|(_, value)| value.as_deref())
+    }
+
+    /// The number that is the value of an option, within its limits.
+    pub fn number(&self, option: &str, what: &str, limits: RangeInclusive<u16>) -> Result<Option<u16>, Failure> {
+        let number = |value: &OsStr| value.to_str()?.parse().ok().filter(|number| limits.contains(number));
+        match self.value(option) {
+            None => Ok(None),
+            Some(value) => match number(value) {
+                Some(number) => Ok(Some(number)),
+                None => Err(self.unfit(option, &format!("{} from {} to {}", what, limits.start(), limits.end()))),
+            },
+        }
+    }
+
+    /// A usage error: the option has another value than it takes.
+    pub fn unfit(&self, option: &str, takes: &str) -> Failure {
+        let value = self.value(option).unwrap_or_default().to_string_lossy();
+        Failure::Usage(format!("{}: {} takes {}, not '{}'", self.command.name, option, takes, value.escape_debug()))
     }
 
     pub fn wait(&self) -> Duration {
@@ -90,12 +137,4 @@ impl Words {
 
 pub fn text(word: &OsString) -> Result<&str, Failure> {
     word.to_str().ok_or_else(|| Failure::Usage(format!("'{}' is no text", word.to_string_lossy())))
-}
-
-fn seconds(command: &Command, word: Option<&OsString>) -> Result<Duration, Failure> {
-    let number = word.and_then(|word| word.to_str()).and_then(|text| text.parse::<u16>().ok());
-    match number {
-        Some(number) => Ok(Duration::from_secs(number as u64)),
-        None => Err(command.misused("--wait takes a number of seconds")),
-    }
 }

@@ -1,11 +1,14 @@
-//! Three functions of the C library that flexbox needs and that std of Rust 1.63, Debian 12's, does not have: an advisory lock on
-//! a file, its owner set, and the local date. All unsafe code of the host that is not a call of libflex.a is here.
-//! docs/DECISIONS.md says why they are declared here and not taken from a crate.
+//! Four functions of the C library that flexbox needs and that std of Rust 1.63, Debian 12's, does not have: an advisory lock on
+//! a file, its owner set, a rename that replaces nothing, and the local date. All unsafe code of the host that is not a call of
+//! libflex.a is here. docs/DECISIONS.md says why they are declared here and not taken from a crate.
 
+use std::ffi::CString;
 use std::fs::File;
 use std::io;
 use std::os::raw::{c_char, c_int, c_long, c_uint};
+use std::os::unix::ffi::OsStrExt;
 use std::os::unix::io::AsRawFd;
+use std::path::Path;
 use std::ptr;
 
 /// For `OpenOptionsExt::custom_flags`: opening a FIFO does not wait for its other end. The number is Linux's.
@@ -30,6 +33,7 @@ struct BrokenDownTime {
 extern "C" {
     fn flock(file: c_int, operation: c_int) -> c_int;
     fn fchown(file: c_int, owner: c_uint, group: c_uint) -> c_int;
+    fn renameat2(from_folder: c_int, from: *const c_char, to_folder: c_int, to: *const c_char, flags: c_uint) -> c_int;
     fn time(stored: *mut i64) -> i64;
     fn localtime_r(seconds: *const i64, into: *mut BrokenDownTime) -> *mut BrokenDownTime;
 }
@@ -65,6 +69,20 @@ pub fn set_owner(file: &File, owner: u32, group: u32) -> io::Result<()> {
     // # Safety
     // fchown takes three numbers and touches no memory of this process. The descriptor is open as long as `file` lives.
     answered(unsafe { fchown(file.as_raw_fd(), owner, group) })
+}
+
+/// Gives a file a name that must be free: whatever has it, a link that leads nowhere too, is not replaced. The error is
+/// `InvalidInput` where the file system has no such rename, `Unsupported` where the kernel has none.
+pub fn rename_new(from: &Path, to: &Path) -> io::Result<()> {
+    const WHERE_THE_PATH_SAYS: c_int = -100;
+    const REPLACES_NOTHING: c_uint = 1;
+    let (from, to) = (CString::new(from.as_os_str().as_bytes())?, CString::new(to.as_os_str().as_bytes())?);
+    // # Safety
+    // Both pointers are of texts that end with a zero and live through the call. renameat2 reads them and touches no other
+    // memory of this process.
+    answered(unsafe {
+        renameat2(WHERE_THE_PATH_SAYS, from.as_ptr(), WHERE_THE_PATH_SAYS, to.as_ptr(), REPLACES_NOTHING)
+    })
 }
 
 /// Today's date where the machine stands, by the variable TZ or the machine's time zone: year, month, day.
@@ -120,6 +138,20 @@ mod tests {
         assert!(try_lock(&second, Lock::Shared).unwrap());
         assert!(try_lock(&File::open(&path).unwrap(), Lock::Shared).unwrap());
         fs::remove_file(&path).unwrap();
+    }
+
+    #[test]
+    fn a_name_that_is_not_free_is_not_taken() {
+        let path = |name: &str| env::temp_dir().join(format!("posix-rename-{}-{}", name, process::id()));
+        let (from, to) = (path("from"), path("to"));
+        fs::write(&from, b"new").unwrap();
+        fs::write(&to, b"old").unwrap();
+        assert_eq!(rename_new(&from, &to).unwrap_err().kind(), io::ErrorKind::AlreadyExists);
+        assert_eq!(fs::read(&to).unwrap(), b"old");
+        fs::remove_file(&to).unwrap();
+        rename_new(&from, &to).unwrap();
+        assert_eq!((fs::read(&to).unwrap(), from.exists()), (b"new".to_vec(), false));
+        fs::remove_file(&to).unwrap();
     }
 
     #[test]

@@ -1,8 +1,8 @@
-//! The five entries of the diskette service, written plainly from documents 01 and 02 and from nothing else.
+//! The six entries of the diskette service, written plainly from documents 01 and 02 and from nothing else.
 //!
 //! Nothing here is proved, and no host program uses it: it is what the proved archive is compared with,
 //! call by call and byte by byte, and the straightforward program that its speed is measured against.
-//! Each function stands under the sentences of 01 that it follows.
+//! Each function stands under the sentences of 01 and 02 that it follows.
 
 #![forbid(unsafe_code)]
 
@@ -10,12 +10,14 @@ mod block;
 mod call;
 mod census;
 mod directory;
+mod format;
 mod shape;
 mod text;
 
 pub use block::{extension, preset};
 pub use call::call;
 pub use census::census;
+pub use format::format;
 pub use text::error_text;
 
 /// The table of control blocks: eight of 320 bytes.

@@ -6,8 +6,11 @@ pub type Address = (u8, u8);
 /// 0,0: the end of a chain, or no sector yet.
 pub const NONE: Address = (0, 0);
 
+/// The bytes of a sector.
+pub const SECTOR: usize = 256;
+
 /// Sector (0, 3), the information record, begins here whatever the shape is.
-pub const INFORMATION: usize = 2 * 256;
+pub const INFORMATION: usize = 2 * SECTOR;
 
 /// M is the last track, S the sectors per track.
 #[derive(Clone, Copy)]
@@ -22,14 +25,21 @@ impl Shape {
         if image.len() < 552 {
             return None;
         }
-        let last = image[550] as usize;
-        let per = image[551] as usize;
-        let limits = (1..=79).contains(&last) && (5..=36).contains(&per);
-        if limits && image.len() == (last + 1) * per * 256 {
+        Shape::within_limits(image[550] as usize, image[551] as usize).filter(|shape| image.len() == shape.bytes())
+    }
+
+    /// The two limits: 1 ≤ M ≤ 79 and 5 ≤ S ≤ 36.
+    pub fn within_limits(last: usize, per: usize) -> Option<Shape> {
+        if (1..=79).contains(&last) && (5..=36).contains(&per) {
             Some(Shape { last, per })
         } else {
             None
         }
+    }
+
+    /// "(M + 1)·S·256"
+    pub fn bytes(&self) -> usize {
+        (self.last + 1) * self.per * SECTOR
     }
 
     /// "Sectors are numbered from 1, tracks from 0."
@@ -44,7 +54,7 @@ impl Shape {
 
     /// "Sector (t, s) begins at (t·S + s − 1)·256." Only of a sector that exists.
     pub fn offset(&self, (track, sector): Address) -> usize {
-        (track as usize * self.per + sector as usize - 1) * 256
+        (track as usize * self.per + sector as usize - 1) * SECTOR
     }
 
     /// How many data sectors there are.

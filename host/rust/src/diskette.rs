@@ -41,6 +41,32 @@ impl Diskette {
         Diskette { image, table: vec![0; TABLE] }
     }
 
+    /// A blank diskette of the tracks 0 to `last_track` with `per_track` sectors each; the date is month, day, year. All blocks
+    /// are closed.
+    ///
+    /// ```
+    /// # fn main() -> Result<(), Box<dyn std::error::Error>> {
+    /// let mut diskette = flex::Diskette::blank(34, 10, b"ALARMS\0\0\0\0\0", 1, [11, 15, 26])?;
+    /// diskette.put(&"NIGHT.TXT".parse()?, b"22:41 AMPLIFIER 14 LEVEL LOW\n", [11, 15, 26])?;
+    /// assert_eq!(diskette.survey()?.iter().filter(|held| held.owner == 0).count(), 339);
+    /// # Ok(())
+    /// # }
+    /// ```
+    pub fn blank(
+        last_track: usize,
+        per_track: usize,
+        label: &[u8; 11],
+        volume: u16,
+        date: [u8; 3],
+    ) -> Result<Diskette, Refusal> {
+        let tracks = last_track.saturating_add(1);
+        let bytes = tracks.saturating_mul(per_track).saturating_mul(SECTOR);
+        // No right shape has more; of a wrong one the service says 41 whatever the image is.
+        let mut image = vec![0; bytes.min(LARGEST_IMAGE)];
+        crate::format(&mut image, last_track, per_track, label, volume, date)?;
+        Ok(Diskette::new(image))
+    }
+
     /// An image and a table that are in use already. Panics if the table is not 2,560 bytes.
     pub fn of_buffers(image: Vec<u8>, table: Vec<u8>) -> Diskette {
         assert_eq!(table.len(), TABLE, "a table has 2,560 bytes");

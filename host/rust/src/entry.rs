@@ -1,4 +1,4 @@
-//! The five entries on numbers and slices, with the archive's own answers. The only unsafe code of this crate is here.
+//! The six entries on numbers and slices, with the archive's own answers. The only unsafe code of this crate is here.
 //!
 //! Each call is safe for every input: the archive is proved to stay inside the slices that it is lent and to end, whatever
 //! they hold and however long they are, and two `&mut` slices can't overlap, which is all that a host owes it.
@@ -16,6 +16,18 @@ extern "C" {
         owners_len: usize,
     ) -> u32;
     fn flex_error_text(text: *mut u8, text_len: usize, number: u8) -> u32;
+    fn flex_format(
+        image: *mut u8,
+        image_len: usize,
+        last_track: usize,
+        per_track: usize,
+        label: *const u8,
+        label_len: usize,
+        volume: u16,
+        month: u8,
+        day: u8,
+        year: u8,
+    ) -> u32;
 }
 
 /// The answer: 0, 13 or 18.
@@ -56,4 +68,32 @@ pub fn error_text(text: &mut [u8], number: u8) -> u32 {
     // # Safety
     // Pointer and length are of one slice, borrowed for the call alone. Every length and `number` is allowed.
     unsafe { flex_error_text(text.as_mut_ptr(), text.len(), number) }
+}
+
+/// The answer: 0, 40 or 41. The date is month, day, year.
+pub fn format(
+    image: &mut [u8],
+    last_track: usize,
+    per_track: usize,
+    label: &[u8],
+    volume: u16,
+    [month, day, year]: [u8; 3],
+) -> u32 {
+    // # Safety
+    // Each pointer and the length beside it are of one slice. The image is borrowed mutably for the call alone, so it does
+    // not overlap the label, which the archive only reads (its pointer is const). Every length, content and number is allowed.
+    unsafe {
+        flex_format(
+            image.as_mut_ptr(),
+            image.len(),
+            last_track,
+            per_track,
+            label.as_ptr(),
+            label.len(),
+            volume,
+            month,
+            day,
+            year,
+        )
+    }
 }

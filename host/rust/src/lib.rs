@@ -18,8 +18,8 @@
 //!
 //! The small steps that these jobs are made of, on any block, are those of [`Steps`].
 //!
-//! [`preset`], [`extension`], [`call`], [`census`] and [`error_text`] are the five entries on buffers of the host's own, and
-//! [`entry`] has them with the archive's bare answers.
+//! [`preset`], [`extension`], [`call`], [`census`], [`error_text`] and [`format`] are the six entries on buffers of the host's
+//! own, and [`entry`] has them with the archive's bare answers.
 
 #![deny(unsafe_code)]
 #![warn(missing_docs)]
@@ -73,6 +73,20 @@ pub fn census(image: &[u8], sectors: &mut [u8], owners: &mut [u8]) -> Result<(),
 /// Writes "DISK ERROR #" and the number in three digits to the first 15 bytes.
 pub fn error_text(text: &mut [u8], number: u8) -> Result<(), Refusal> {
     settled(entry::error_text(text, number))
+}
+
+/// Fills an image with a blank diskette of the tracks 0 to `last_track` with `per_track` sectors each; the date is month, day,
+/// year. The image must have (`last_track` + 1) · `per_track` · 256 bytes and the label eleven, of any kind. No control block
+/// may be open on what the image held. [`Diskette::blank`] does the same with the image made for it.
+pub fn format(
+    image: &mut [u8],
+    last_track: usize,
+    per_track: usize,
+    label: &[u8],
+    volume: u16,
+    date: [u8; 3],
+) -> Result<(), Refusal> {
+    settled(entry::format(image, last_track, per_track, label, volume, date))
 }
 
 /// The service's text for a number.

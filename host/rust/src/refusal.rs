@@ -42,9 +42,9 @@ pub enum Refusal {
     Unfit,
     /// 21: the name is not legal.
     BadName,
-    /// 40: an output has the wrong length.
+    /// 40: an output, a text, or an image or a label for a blank diskette has the wrong length.
     OutputLength,
-    /// 41: the census found a wrong shape.
+    /// 41: the census found a wrong shape, or a blank diskette of no right shape was asked for.
     CensusShape,
     /// 42: the census found a directory that is not right.
     CensusDirectory,
@@ -79,8 +79,8 @@ const ALL: [(u8, Refusal, &str); 24] = [
     (17, ReadProtected, "file is read-protected"),
     (18, Unfit, "control block not in the right state"),
     (21, BadName, "name not legal"),
-    (40, OutputLength, "output has the wrong length"),
-    (41, CensusShape, "not the image of a diskette"),
+    (40, OutputLength, "output, image or label has the wrong length"),
+    (41, CensusShape, "not the image of a diskette, or no such shape"),
     (42, CensusDirectory, "directory not right"),
     (43, CensusNames, "two files of one name"),
     (44, CensusFree, "free chain not right"),

@@ -1,13 +1,13 @@
-//! The wrapper on the archive: document 01's fixtures P1 to P12 on the five-sector diskette, and the wrapper's own parts.
+//! The wrapper on the archive: document 01's fixtures P1 to P12 on the five-sector diskette, blank diskettes, and the wrapper's own
+//! parts.
 
 use super::*;
-use diskettes::blank;
 
 const TODAY: [u8; 3] = [12, 3, 81];
 
 /// The five-sector diskette of document 01, empty, with all blocks closed.
 fn five() -> Diskette {
-    Diskette::new(blank(1, 5))
+    Diskette::blank(1, 5, &[0; 11], 0, [0; 3]).unwrap()
 }
 
 fn name(text: &str) -> Name {
@@ -130,7 +130,7 @@ fn p10_delete_while_read() {
 #[test]
 fn p11_the_length_must_fit() {
     assert_eq!(five().ask(0, OPEN_DIRECTORY), Ok(0));
-    let mut short = Diskette::new(blank(1, 5)[..2559].to_vec());
+    let mut short = Diskette::new(five().image()[..2559].to_vec());
     assert_eq!(short.ask(0, OPEN_DIRECTORY), Err(Refusal::Shape));
     assert_eq!(short.survey(), Err(Refusal::CensusShape));
 }
@@ -162,7 +162,7 @@ fn two_files() -> Diskette {
 #[test]
 fn a_chain_that_is_not_as_its_slot_states_is_seen() {
     let two = two_files();
-    let offset = |sector| diskettes::offset(5, 1, sector);
+    let offset = |sector| Shape { last: 1, per: 5 }.offset(Address::new(1, sector));
     let read = |at, bytes: &[u8]| patched(&two, at, bytes).get(&name("A.TXT")).unwrap();
     let on = read(offset(2), &[1, 3]);
     assert_eq!((on.sectors(), on.last, on.is_as_stated()), (5, Address::new(1, 5), false));
@@ -223,6 +223,89 @@ fn attributes_are_shown_and_one_of_them_stops_reading() {
     }
 }
 
+/// A diskette of 35 tracks of 10 sectors, 340 of them for data.
+fn standard() -> Diskette {
+    Diskette::blank(34, 10, b"ALARMS 1981", 0x1234, TODAY).unwrap()
+}
+
+#[test]
+fn a_blank_diskette_has_all_sectors_free_in_rising_order() {
+    let mut blank = standard();
+    assert_eq!(blank.image().len(), 350 * SECTOR);
+    let rising: Vec<(u16, u16)> = (0..340).map(|sector| (sector, 0)).collect();
+    assert_eq!(held(&blank), rising);
+    let slots = blank.slots().unwrap();
+    assert_eq!(slots.len(), 60);
+    assert!(slots.iter().all(|slot| slot.state == State::NeverUsed));
+}
+
+#[test]
+fn a_blank_diskette_states_what_was_asked_for() {
+    let blank = standard();
+    let record = &blank.image()[2 * SECTOR..3 * SECTOR];
+    assert_eq!(record[..16], [0; 16]);
+    assert_eq!(record[16..27], *b"ALARMS 1981");
+    assert_eq!(record[27..29], [0x12, 0x34]);
+    assert_eq!(record[29..35], [1, 1, 34, 10, 1, 84]);
+    assert_eq!(record[35..40], [12, 3, 81, 34, 10]);
+    assert_eq!(record[40..], [0; 216]);
+}
+
+#[test]
+fn a_blank_diskette_takes_a_file_and_gives_it_back() {
+    let mut blank = standard();
+    put(&mut blank, "A.TXT", 1000);
+    let reading = blank.get(&name("A.TXT")).unwrap();
+    assert_eq!(reading.bytes[..1000], bytes(1000)[..]);
+    assert!(reading.is_as_stated());
+    let expected: Vec<(u16, u16)> =
+        (4..340).map(|sector| (sector, 0)).chain((0..4).map(|sector| (sector, 1))).collect();
+    assert_eq!(held(&blank), expected);
+}
+
+#[test]
+fn the_smallest_and_the_largest_diskette_can_be_made() {
+    for (last, per) in [(1, 5), (1, 36), (79, 5), (79, 36)] {
+        let blank = Diskette::blank(last, per, &[255; 11], u16::MAX, [255; 3]).unwrap();
+        assert_eq!(blank.survey().unwrap().len(), last * per);
+    }
+    assert_eq!(Diskette::blank(79, 36, &[0; 11], 0, [0; 3]).unwrap().image().len(), LARGEST_IMAGE);
+}
+
+/// 41 whatever the numbers are; an image for the largest of them would not fit in any memory.
+#[test]
+fn no_blank_diskette_has_a_wrong_shape() {
+    let (most, lost) = (usize::MAX, 1 << 56);
+    let lasts = [(0, 10), (80, 10), (256 + 34, 10), (lost + 34, 10), (most - 1, 10), (most, 10)];
+    let pers = [(34, 0), (34, 4), (34, 37), (34, 256 + 10), (34, lost + 10), (34, most)];
+    for (last, per) in lasts.into_iter().chain(pers).chain([(most, most), (0, 0)]) {
+        let refused = Diskette::blank(last, per, &[0; 11], 0, TODAY);
+        assert_eq!(refused, Err(Refusal::CensusShape), "{} {}", last, per);
+        assert_eq!(format(&mut [], last, per, &[], 0, TODAY), Err(Refusal::CensusShape), "{} {}", last, per);
+    }
+}
+
+#[test]
+fn a_refused_format_changes_nothing() {
+    let mut image = vec![7; 2561];
+    for label in [&b""[..], b"TEN LETTER", b"12 LETTERS! "] {
+        assert_eq!(format(&mut image[..2560], 1, 5, label, 0, TODAY), Err(Refusal::OutputLength));
+    }
+    for bytes in [0, 2559, 2561] {
+        assert_eq!(format(&mut image[..bytes], 1, 5, &[0; 11], 0, TODAY), Err(Refusal::OutputLength));
+    }
+    assert_eq!(format(&mut image[..2560], 5, 1, &[0; 11], 0, TODAY), Err(Refusal::CensusShape));
+    assert!(image.iter().all(|&byte| byte == 7));
+}
+
+#[test]
+fn format_leaves_nothing_of_what_the_image_held() {
+    let mut image = vec![7; 2561];
+    format(&mut image[..2560], 1, 5, &[0; 11], 0, [0; 3]).unwrap();
+    assert_eq!(image[..2560], *five().image());
+    assert_eq!(image[2560], 7);
+}
+
 #[test]
 fn sectors_are_read_whole() {
     let mut two = two_files();
@@ -256,7 +339,7 @@ fn empty_slices_are_refused() {
     assert_eq!(call(&mut [], &mut [], 0, 0), Err(Refusal::NoBlock));
     assert_eq!(call(&mut [], &mut [0; TABLE], 0, 0), Err(Refusal::Shape));
     assert_eq!(census(&[], &mut [], &mut []), Err(Refusal::CensusShape));
-    assert_eq!(census(&blank(1, 5), &mut [], &mut []), Err(Refusal::OutputLength));
+    assert_eq!(census(five().image(), &mut [], &mut []), Err(Refusal::OutputLength));
     assert_eq!(error_text(&mut [], 1), Err(Refusal::OutputLength));
 }
 

@@ -1,6 +1,8 @@
 //! One job, done once, inside a function by whose name a tool knows when to count: all that makes its diskette is outside.
 
-use crate::jobs::{data_sectors, half_full, outputs, to_fill, to_load, to_read, Buffers, Service, PLAIN, PROVED};
+use crate::jobs::{
+    data_sectors, half_full, outputs, to_fill, to_format, to_load, to_read, Buffers, Service, PLAIN, PROVED,
+};
 
 /// A job with its buffers made ready.
 enum Job {
@@ -9,6 +11,8 @@ enum Job {
     Read(Buffers),
     Load(Buffers, Vec<[u8; 2]>),
     Store(Buffers, Vec<[u8; 2]>),
+    /// Of an image with this last track and these sectors per track.
+    Format(Vec<u8>, usize, usize),
 }
 
 /// Does the job that the words of the command ask for. None: they are no words for a job.
@@ -22,7 +26,7 @@ pub fn one(service: &str, job: &str, last: &str, per: &str) -> Option<()> {
     let per = per.parse().ok().filter(|per| (5..37).contains(per))?;
     let mut job = ready(job, last, per)?;
     let done = counted_job(service, &mut job);
-    assert_eq!(done, last * per * flex::DATA, "not all bytes were taken, given, loaded, stored or surveyed");
+    assert_eq!(done, last * per * flex::DATA, "not all bytes were taken, given, loaded, stored, surveyed or freed");
     Some(())
 }
 
@@ -33,6 +37,7 @@ fn ready(job: &str, last: usize, per: usize) -> Option<Job> {
         "read" => Some(Job::Read(to_read(filled(last, per)))),
         "load" => Some(Job::Load(to_load(filled(last, per)), data_sectors(last, per))),
         "store" => Some(Job::Store(to_fill(last, per), data_sectors(last, per))),
+        "format" => Some(Job::Format(to_format(last, per), last, per)),
         _ => None,
     }
 }
@@ -55,5 +60,6 @@ fn counted_job(service: Service, job: &mut Job) -> usize {
         Job::Read(buffers) => service.read(buffers),
         Job::Load(buffers, sectors) => service.load(buffers, sectors) * flex::DATA,
         Job::Store(buffers, sectors) => service.store(buffers, sectors) * flex::DATA,
+        Job::Format(image, last, per) => service.format(image, *last, *per) * flex::DATA,
     }
 }

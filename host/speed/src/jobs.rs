@@ -5,11 +5,13 @@ use flex::{Diskette, Name, Refusal, Steps};
 
 type Call = fn(&mut [u8], &mut [u8], usize, u8) -> u32;
 type Census = fn(&[u8], &mut [u8], &mut [u8]) -> u32;
+type Format = fn(&mut [u8], usize, usize, &[u8], u16, [u8; 3]) -> u32;
 
 #[derive(Clone, Copy)]
 pub struct Service {
     call: Call,
     census: Census,
+    format: Format,
 }
 
 #[inline(never)]
@@ -23,6 +25,11 @@ fn plain_census(image: &[u8], sectors: &mut [u8], owners: &mut [u8]) -> u32 {
 }
 
 #[inline(never)]
+fn plain_format(image: &mut [u8], last: usize, per: usize, label: &[u8], volume: u16, date: [u8; 3]) -> u32 {
+    reference::format(image, last, per, label, volume, date)
+}
+
+#[inline(never)]
 fn proved_call(image: &mut [u8], table: &mut [u8], fcb: usize, byte: u8) -> u32 {
     flex::entry::call(image, table, fcb, byte)
 }
@@ -32,8 +39,13 @@ fn proved_census(image: &[u8], sectors: &mut [u8], owners: &mut [u8]) -> u32 {
     flex::entry::census(image, sectors, owners)
 }
 
-pub const PLAIN: Service = Service { call: plain_call, census: plain_census };
-pub const PROVED: Service = Service { call: proved_call, census: proved_census };
+#[inline(never)]
+fn proved_format(image: &mut [u8], last: usize, per: usize, label: &[u8], volume: u16, date: [u8; 3]) -> u32 {
+    flex::entry::format(image, last, per, label, volume, date)
+}
+
+pub const PLAIN: Service = Service { call: plain_call, census: plain_census, format: plain_format };
+pub const PROVED: Service = Service { call: proved_call, census: proved_census, format: proved_format };
 
 /// An image and a table.
 pub type Buffers = (Vec<u8>, Vec<u8>);
@@ -81,7 +93,16 @@ impl Service {
     pub fn survey(&self, image: &[u8], [sectors, owners]: &mut [Vec<u8>; 2]) {
         assert_eq!((self.census)(image, sectors, owners), 0, "the census refused");
     }
+
+    /// Fills an image of the right length with a blank diskette; how many data sectors it then has, by the count of free ones.
+    pub fn format(&self, image: &mut [u8], last: usize, per: usize) -> usize {
+        assert_eq!((self.format)(image, last, per, b"MEASUREMENT", 1, DATE), 0, "format refused");
+        u16::from_be_bytes([image[FREE_COUNT], image[FREE_COUNT + 1]]) as usize
+    }
 }
+
+/// Where the information record states how many sectors are free.
+const FREE_COUNT: usize = 2 * flex::SECTOR + 33;
 
 const DATE: [u8; 3] = [12, 3, 81];
 
@@ -149,6 +170,11 @@ pub fn half_full(last: usize, per: usize) -> Vec<u8> {
         (0..flex::BLOCKS).try_fold(0, |_, fcb| diskette.ask(fcb, flex::CLOSE))
     };
     worked(blank(last, per), work).0
+}
+
+/// An image to format, all of it zero.
+pub fn to_format(last: usize, per: usize) -> Vec<u8> {
+    vec![0; (last + 1) * per * flex::SECTOR]
 }
 
 /// The two outputs of a census.

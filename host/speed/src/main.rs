@@ -13,7 +13,7 @@ use std::env;
 use std::process::ExitCode;
 
 const USAGE: &str = "usage: speed [ROUNDS]
-       speed count proved|plain census|fill|read|load|store M S";
+       speed count proved|plain census|fill|read|load|store|format M S";
 
 fn main() -> ExitCode {
     let words: Vec<String> = env::args().skip(1).collect();

@@ -1,10 +1,10 @@
 //! The times of both services. A diskette of 35 tracks of 10 sectors, of which 34 tracks hold data, is filled by single calls
 //! and read back, and its sectors are loaded and stored one by one; a census is taken of it, of the smallest diskette and of the
-//! largest. The two services take turns, every round starts from buffers that are cleared and made anew, and of all rounds
-//! the quickest counts, since what else the machine does can only slow one down.
+//! largest, and the largest is formatted. The two services take turns, every round starts from buffers that are cleared and
+//! made anew, and of all rounds the quickest counts, since what else the machine does can only slow one down.
 
 use crate::jobs::{
-    data_sectors, files, half_full, outputs, to_fill, to_load, to_read, Buffers, Service, PLAIN, PROVED,
+    data_sectors, files, half_full, outputs, to_fill, to_format, to_load, to_read, Buffers, Service, PLAIN, PROVED,
 };
 use std::time::{Duration, Instant};
 
@@ -15,6 +15,7 @@ pub fn all(rounds: usize) {
     for (last, per) in [(1, 5), (34, 10), (79, 36)] {
         censuses(rounds, last, per);
     }
+    formats(rounds, 79, 36);
 }
 
 fn transfers(rounds: usize, last: usize, per: usize) {
@@ -89,6 +90,22 @@ fn census(service: Service, image: &[u8], data_sectors: usize) -> (Duration, [Ve
         service.survey(image, &mut lists);
     }
     (began.elapsed() / times, lists)
+}
+
+/// Each service has an image of its own, cleared before each round.
+fn formats(rounds: usize, last: usize, per: usize) {
+    let mut images = [to_format(last, per), to_format(last, per)];
+    let mut best = [Duration::MAX; 2];
+    for _ in 0..rounds {
+        for (i, service) in [PROVED, PLAIN].iter().enumerate() {
+            images[i].fill(0);
+            let (time, free) = timed(|| service.format(&mut images[i], last, per));
+            assert_eq!(free, last * per, "not all sectors are free");
+            best[i] = best[i].min(time);
+        }
+        assert!(images[0] == images[1], "the two blank diskettes differ");
+    }
+    print_row(&format!("format {}×{}", last, per), images[0].len() / flex::SECTOR, best[0], best[1]);
 }
 
 fn print_row(what: &str, sectors: usize, proved: Duration, plain: Duration) {

@@ -1,5 +1,5 @@
 use native.Mathlib.Omega.{arith}
-use Rattle.disk.proofs.Laws.{too-short, no-track, many-tracks, few-sectors, many-sectors, by-length}
+use Rattle.disk.proofs.Laws.{too-short, past-limits, by-length}
 use borrow.Author.Needs.{needs}
 use Rattle.disk.proofs.is_shape.Statement.{statement}
 use Rattle.disk.proofs.is_shape.Tie as tie
@@ -8,8 +8,5 @@ pub is-shape-spec : {M : Type 1} → statement M
 is-shape-spec =
     tie.close
     (tie.spec
-    (λ c. too-short _ _ _ (omega arith)) (λ c. no-track _ _ _ (omega arith) (omega arith))
-    (λ c. many-tracks _ _ _ (omega arith) (omega arith) (omega arith))
-    (λ c. few-sectors _ _ _ (omega arith) (omega arith) (omega arith) (omega arith))
-    (λ c. many-sectors _ _ _ (omega arith) (omega arith) (omega arith) (omega arith) (omega arith))
-    (λ c κs. search needs) (λ c. search needs) (λ c. search by-length))
+    (λ c. too-short _ _ _ (omega arith)) (λ c κs. search needs) (λ c. search (needs, past-limits)) (λ c κs. search needs) (λ c. search needs)
+    (λ c. search (needs, by-length)))

@@ -1,4 +1,4 @@
-//! What every command that changes an image has in common: lock, census, work, census, save.
+//! What put, delete and rename have in common: lock, census, work, census, save.
 //!
 //! A diskette that the census refuses is not changed: sound files could be lost. `--force` is for those who know.
 

@@ -5,7 +5,7 @@ use super::{print, refused};
 use crate::check::{self, Check};
 use crate::failure::{note, Failure};
 use crate::image::{is_same, Image};
-use crate::replace::create_beside;
+use crate::replace::{create_beside, folder, PRIVATE};
 use crate::words::Words;
 use flex::{Diskette, Reading, Refusal};
 use std::fmt::Display;
@@ -121,10 +121,6 @@ fn place(path: &Path) -> PathBuf {
     fs::canonicalize(path).ok().or_else(new).unwrap_or_else(|| path.to_path_buf())
 }
 
-fn folder(path: &Path) -> &Path {
-    path.parent().filter(|folder| *folder != Path::new("")).unwrap_or_else(|| Path::new("."))
-}
-
 fn unwritten(path: &Path, why: impl Display) -> Failure {
     Failure::File(format!("{}: {}", path.display(), why))
 }
@@ -146,7 +142,7 @@ fn write(path: &Path, bytes: &[u8], replace: bool) -> Result<(), Failure> {
 }
 
 fn put_over(path: &Path, old: &Metadata, bytes: &[u8]) -> Result<(), Failure> {
-    let (new, mut file) = create_beside(folder(path))
+    let (new, mut file) = create_beside(folder(path), PRIVATE)
         .map_err(|error| unwritten(path, format!("a new file can't be made beside it: {}", error)))?;
     let filled = file.write_all(bytes).and_then(|()| file.set_permissions(old.permissions()));
     filled.and_then(|()| fs::rename(&new, path)).map_err(|error| {

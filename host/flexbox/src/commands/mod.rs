@@ -3,10 +3,12 @@
 mod census;
 mod change;
 mod check;
+mod date;
 mod demo;
 #[cfg(test)]
 mod documented;
 mod dump;
+mod format;
 mod get;
 pub mod info;
 pub mod list;
@@ -48,11 +50,14 @@ fn refused_of<'a>(words: &'a Words, diskette: &Diskette) -> impl Fn(Refusal) -> 
 }
 
 pub fn print(bytes: &[u8]) -> Result<(), Failure> {
+    try_print(bytes).map_err(Failure::File)
+}
+
+/// What failed is given in words, to which a command can add what it has done by then.
+fn try_print(bytes: &[u8]) -> Result<(), String> {
     let mut out = io::stdout();
     match out.write_all(bytes).and_then(|()| out.flush()) {
-        Err(error) if error.kind() != io::ErrorKind::BrokenPipe => {
-            Err(Failure::File(format!("standard output: {}", error)))
-        }
+        Err(error) if error.kind() != io::ErrorKind::BrokenPipe => Err(format!("standard output: {}", error)),
         _ => Ok(()),
     }
 }

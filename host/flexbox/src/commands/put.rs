@@ -2,7 +2,7 @@
 
 use super::change::change;
 use super::pieces::{pieces, Piece};
-use super::refused;
+use super::{date, refused};
 use crate::failure::{note, Failure};
 use crate::input;
 use crate::words::Words;
@@ -13,7 +13,7 @@ use flex::{Diskette, Refusal, ATTRIBUTES, ATTRIBUTE_READ};
 pub fn run(words: &Words) -> Result<(), Failure> {
     let pieces = pieces(words)?;
     let contents: Vec<Vec<u8>> = pieces.iter().map(contents).collect::<Result<_, _>>()?;
-    let date = today()?;
+    let date = date::today()?;
     let mut bared = Vec::new();
     change(words, |diskette| {
         for (piece, bytes) in pieces.iter().zip(&contents) {
@@ -47,10 +47,4 @@ fn make_room(diskette: &mut Diskette, piece: &Piece) -> Result<bool, Refusal> {
         Err(Refusal::NotFound) => Ok(false),
         Err(refusal) => Err(refusal),
     }
-}
-
-/// Month, day and the last two digits of the year, where the machine stands.
-pub fn today() -> Result<[u8; 3], Failure> {
-    let (year, month, day) = posix::local_date().map_err(|error| Failure::File(format!("the date: {}", error)))?;
-    Ok([month, day, year.rem_euclid(100) as u8])
 }

@@ -1,6 +1,6 @@
 //! The table of commands, and the help that is made of it.
 
-use super::{census, change, check, demo, dump, get, info, list, put, report};
+use super::{census, change, check, demo, dump, format, get, info, list, put, report};
 use crate::words::Command;
 use std::fmt::Write;
 
@@ -100,6 +100,30 @@ pub const COMMANDS: &[Command] = &[
         run: change::rename,
     },
     Command {
+        name: "format",
+        usage: "[--tracks N] [--sectors N] [--label TEXT] [--volume N] [--date MONTH-DAY-YEAR] [--replace] IMAGE",
+        summary: "make a blank diskette",
+        details: "Makes IMAGE, a diskette without files: every sector behind track 0 is free, and track 0 has the directory from its\n\
+                  sector 5 to its last. IMAGE appears whole or not at all. One that is there already is refused.\n\
+                  \x20 --tracks   how many tracks, 2 to 80, track 0 among them; otherwise 35\n\
+                  \x20 --sectors  how many sectors a track, 5 to 36; otherwise 10\n\
+                  \x20 --label    at most eleven characters of printable ASCII, filled up with zeros; otherwise none\n\
+                  \x20 --volume   the volume number, 0 to 65535; otherwise 0\n\
+                  \x20 --date     a day of the calendar, as 12-03-81 or 12-3-1981; otherwise today's, as put has it\n\
+                  \x20 --replace  an IMAGE that is there already is replaced, a damaged one too, and all files on it are lost; its\n\
+                  \x20            shape, label and volume number are not kept\n",
+        operands: (1, 1),
+        options: &[
+            "--tracks N",
+            "--sectors N",
+            "--label TEXT",
+            "--volume N",
+            "--date MONTH-DAY-YEAR",
+            "--replace",
+        ],
+        run: format::run,
+    },
+    Command {
         name: "dump",
         usage: "IMAGE TRACK,SECTOR",
         summary: "show the bytes of a sector",
@@ -120,10 +144,11 @@ pub const COMMANDS: &[Command] = &[
     },
     Command {
         name: "demo",
-        usage: "IMAGE",
-        summary: "list, census, put, get and delete on the demo diskette, told step by step",
-        details: "Writes NIGHT.TXT to IMAGE, reads it back and deletes it, and shows directory and census in between.\n",
-        operands: (1, 1),
+        usage: "IMAGE NEW",
+        summary: "format, put, list, census, get and delete, told step by step",
+        details: "Formats NEW, a file that is not there yet, fills it with three logs, and reads them back. Then it writes NIGHT.TXT\n\
+                  to IMAGE, reads it back and deletes it. Directory and census are shown in between.\n",
+        operands: (2, 2),
         options: &[],
         run: demo::run,
     },
@@ -149,8 +174,9 @@ const REST: &str = "
 A name has at most 8 characters and an extension at most 3; both begin with a letter and go on with letters, digits,
 hyphens or underscores; upper and lower case differ. Without an extension TXT is taken, but NEW.EXT must have one.
 
-A diskette that the census refuses is not changed, and neither is a read-only file. A changed image is checked again,
-written to a new file beside IMAGE, synced and renamed over it, all under a lock. A refusal leaves IMAGE as it was.
+A diskette that the census refuses is not changed but by --force or format --replace, a read-only file by neither.
+A changed image, or a blank one, is checked, written to a new file beside IMAGE, synced and renamed to it, a change all
+under a lock. A refusal leaves IMAGE as it was.
 
 Exit status: 0 done; 1 refused by the diskette service, or damaged; 2 wrong usage; 3 a file of this machine can't be
 read or may not be written; 4 another program has IMAGE locked.
