@@ -6,7 +6,7 @@ use mathlib.Core.List.{List, [], _∷_, _++_}
 use Prim.Native.Nat.{ℕ, zero, suc, _+_, _-_, _*_, _/_, _%_, _≤_, _<_}
 use native.Mathlib.Omega.{arith}
 use native.Mathlib.Decide.{ℕ-discrete, decLt}
-use lib.ListN.{length, getD, length-append, List·getD-append}
+use lib.ListN.{length, getD, List·getD-append}
 use lib.Seq.{getD-append-add}
 use lib.Dec.{eqb, ltb}
 use borrow.Author.Tests.{lt-ltb, le-ltb, eq-eqb, ne-eqb, eqb-true}
@@ -19,7 +19,7 @@ use Rattle.laws.specs.Bytes.{same-refl, same-eq, part-at}
 use Rattle.chains.specs.Tally.{tally, tally-head, eq1, eq1-same, eq1-ne}
 use Rattle.laws.specs.Tests.{within-true}
 use Rattle.laws.specs.Addresses.{Shape}
-use Rattle.laws.specs.Slots.{IsSlot, slot-made, slots-member, placed-slot, place-inj}
+use Rattle.laws.specs.Slots.{length-slotsAt, length-slots, IsSlot, slot-made, slots-member, placed-slot, place-inj}
 use Rattle.chains.specs.Addresses.{absurd-bool, adr, adr-zero, adr-pos, index-adr, directory-adr, directory-index}
 use Rattle.chains.specs.Chain.{first, Seg, seg-at, tally-getD, in-one}
 
@@ -197,22 +197,11 @@ module _ (M S : ℕ) (z : Shape M S) (img : List ℕ) where
 
 -- ---- slots
 
-length-slotsAt : (at n : ℕ) → length (slotsAt at n) ≡ n
-unfolding slotsAt
-length-slotsAt at zero = refl
-length-slotsAt at (suc n) = ap suc (length-slotsAt (at + 24) n)
-
 slotsAt-at : (at n i : ℕ) → i < n → getD (slotsAt at n) i 0 ≡ at + 24 * i
 unfolding slotsAt
 slotsAt-at at zero i h = absurd (omega arith)
 slotsAt-at at (suc n) zero h = omega arith
 slotsAt-at at (suc n) (suc i) h = slotsAt-at (at + 24) n i (omega arith) ∙ omega arith
-
-pub length-slots : (ds : List ℕ) → length (slotsOf ds) ≡ 10 * length ds
-unfolding slotsOf
-length-slots [] = refl
-length-slots (k ∷ ds) =
-    length-append (slotsAt (256 * k + 16) 10) (slotsOf ds) ∙ omega (arith, length-slotsAt (256 * k + 16) 10, length-slots ds)
 
 -- slot number 10·c + i stands in the sector number c, at 16 + 24·i
 pub slot-at : (ds : List ℕ) (c i : ℕ) → c < length ds → i < 10 → getD (slotsOf ds) (10 * c + i) 0 ≡ 256 * getD ds c 0 + (16 + 24 * i)

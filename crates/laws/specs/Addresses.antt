@@ -1,5 +1,5 @@
 -- Shape, addresses (track, sector) and indices of sectors, and the way between them. The only arithmetic that is not linear stands here.
-use mathlib.Core.Path.{_≡_, refl, sym, ap, _∙_}
+use mathlib.Core.Path.{_≡_, refl, _∙_}
 use mathlib.Core.Bool.{true}
 use mathlib.Core.List.{List}
 use Prim.Native.Nat.{ℕ, _+_, _-_, _*_, _/_, _%_, _≤_, _<_}
@@ -140,11 +140,6 @@ pub index-directory : (S a : ℕ) → Lies 0 0 5 S a → index S a ≡ sectorOf 
 unfolding index
 index-directory S a l = rw (let e : trackOf a ≡ 0 = omega (arith, l .track-high) in e) (omega arith)
 
--- of any address
-pub index-small : (S a : ℕ) → S < 256 → index S a < 65536
-unfolding index
-index-small S a h = omega (arith, product (trackOf a) 255 S 255 (omega arith) (omega arith))
-
 -- ---- from an index to its address
 
 -- the address of the sector with the index k
@@ -169,15 +164,6 @@ unfolding addressOf
 address-index M S a l h =
     let r : sectorOf a - 1 < S = omega (arith, l .sector-low, l .sector-high) in
     rw (index-is 0 M S a l, digits-div (trackOf a) {m = S} r, digits-mod (trackOf a) {m = S} r) (omega (arith, l .sector-low))
-
--- an address is known by its index
-pub index-inj : (M S a b : ℕ) → Lies 0 M 1 S a → Lies 0 M 1 S b → a < 65536 → b < 65536 → index S a ≡ index S b → a ≡ b
-index-inj M S a b l k h j e = sym (address-index M S a l h) ∙ ap (addressOf S) e ∙ address-index M S b k j
-
--- a data sector by its number
-pub number-inj : (M S a b : ℕ) → Lies 1 M 1 S a → Lies 1 M 1 S b → a < 65536 → b < 65536 → dataNumber S (index S a) ≡ dataNumber S (index S b) → a ≡ b
-number-inj M S a b l k h j e =
-    index-inj M S a b (data-sector M S a l) (data-sector M S b k) h j (omega (arith, data-low M S a l, data-low M S b k))
 
 -- the sectors from track t to track u
 module _ (t u S k : ℕ) (low : t * S ≤ k) (high : k < (u + 1) * S) (few : u < 256) (pos : 1 ≤ S) (some : S < 256) where

@@ -69,9 +69,6 @@ asked-stated img tab f b =
 pub number-is : (e : ℕ) → member e refusalNumbers ≡ true → (1 ≤ e) × (e < 256)
 number-is e h = (each-member (λ (x : ℕ). 1 ≤ x) refusalNumbers e (omega arith) h, each-member (λ (x : ℕ). x < 256) refusalNumbers e (omega arith) h)
 
-pub asked-number : (img tab : List ℕ) (f b e : ℕ) → asked img tab f b ≡ refuse e → member e refusalNumbers ≡ true
-asked-number img tab f b e h = rw h at (asked-stated img tab f b)
-
 -- ---- what an effect leaves
 
 -- a refusal: byte 0, no store, and of the table at most byte 1 of the block

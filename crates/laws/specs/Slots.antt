@@ -4,8 +4,7 @@ use mathlib.Core.Bool.{Bool, true, false}
 use mathlib.Core.List.{List, [], _∷_}
 use Prim.Native.Nat.{ℕ, zero, suc, _+_, _-_, _*_, _/_, _%_, _≤_, _<_}
 use native.Mathlib.Omega.{arith}
-use native.Mathlib.Decide.{decLt}
-use lib.ListN.{getD}
+use lib.ListN.{length, getD, length-append}
 use lib.Dec.{eqb}
 use borrow.Author.Tests.{eqb-true, eq-eqb}
 use Rattle.rules.specs.Bytes.{pick, within, part, same}
@@ -105,18 +104,18 @@ slots-are img S = slots-of S (directory img S) (directory-in img S)
 pub slot-is : (img : List ℕ) (S o : ℕ) → member o (slots img S) ≡ true → IsSlot S o
 slot-is img S o h = each-member (IsSlot S) (slots img S) o (slots-are img S) h
 
--- a slot's number in its sector
-pub slot-number : (S o : ℕ) → IsSlot S o → (i : ℕ) × (i < 10) × (o ≡ 256 * (o / 256) + (16 + 24 * i))
-slot-number S o s = ((o % 256 - 16) / 24, omega arith, omega arith)
+-- ---- how many there are
 
--- two slots do not overlap
-pub slots-apart : (S o p : ℕ) → IsSlot S o → IsSlot S p → o < p → o + 24 ≤ p
-slots-apart S o p s t h = go (slot-number S o s) (slot-number S p t) (decLt (o / 256) (p / 256))
-  where
-    go : (i : ℕ) × (i < 10) × (o ≡ 256 * (o / 256) + (16 + 24 * i)) → (i : ℕ) × (i < 10) × (p ≡ 256 * (p / 256) + (16 + 24 * i))
-        → Dec (o / 256 < p / 256) → o + 24 ≤ p
-    go (i, a, b) (j, c, d) (yes l) = omega arith
-    go (i, a, b) (j, c, d) (no l) = let e : o / 256 ≡ p / 256 = omega arith in let m : i < j = omega arith in omega arith
+pub length-slotsAt : (at n : ℕ) → length (slotsAt at n) ≡ n
+unfolding slotsAt
+length-slotsAt at zero = refl
+length-slotsAt at (suc n) = ap suc (length-slotsAt (at + 24) n)
+
+pub length-slots : (ks : List ℕ) → length (slotsOf ks) ≡ 10 * length ks
+unfolding slotsOf
+length-slots [] = refl
+length-slots (k ∷ ks) =
+    omega (arith, length-append (slotsAt (firstSlotOf k) 10) (slotsOf ks), length-slotsAt (firstSlotOf k) 10, length-slots ks)
 
 -- ---- scans
 

@@ -29,10 +29,6 @@ abbrev pub laid : List ℕ → List Piece → List ℕ
 laid m [] = m
 laid m (p ∷ ps) = laid (over m (begins p) (bytesOf p)) ps
 
-pub laid-append : (ps qs : List Piece) (m : List ℕ) → laid m (ps ++ qs) ≡ laid (laid m ps) qs
-laid-append [] qs m = refl
-laid-append (p ∷ ps) qs m = laid-append ps qs (over m (begins p) (bytesOf p))
-
 pub length-laid : (ps : List Piece) (m : List ℕ) → length (laid m ps) ≡ length m
 length-laid [] m = refl
 length-laid (p ∷ ps) m = length-laid ps (over m (begins p) (bytesOf p)) ∙ length-over m (begins p) (bytesOf p)
@@ -115,10 +111,6 @@ inBlock f (put i vs ∷ ps) = piece (f + i) vs ∷ inBlock f ps
 pub puts-laid : (ps : List Put) (tab : List ℕ) (f : ℕ) → puts tab f ps ≡ laid tab (inBlock f ps)
 puts-laid [] tab f = refl
 puts-laid (put i vs ∷ ps) tab f = puts-laid ps (over tab (f + i) vs) f
-
-pub in-block-append : (ps qs : List Put) (f : ℕ) → inBlock f (ps ++ qs) ≡ inBlock f ps ++ inBlock f qs
-in-block-append [] qs f = refl
-in-block-append (put i vs ∷ ps) qs f = ap (λ (l : List Piece). piece (f + i) vs ∷ l) (in-block-append ps qs f)
 
 pub puts-append : (ps qs : List Put) (tab : List ℕ) (f : ℕ) → puts tab f (ps ++ qs) ≡ puts (puts tab f ps) f qs
 puts-append [] qs tab f = refl

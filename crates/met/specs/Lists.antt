@@ -19,7 +19,8 @@ use Rattle.rules.specs.declared.Lookup.the-variants.{At, Missing}
 use Rattle.laws.specs.Bytes.{part-is, length-part, length-zeros, same-refl, same-eq}
 use Rattle.laws.specs.Addresses.{Shape}
 use Rattle.chains.specs.Chain.{first-getD}
-use Rattle.chains.specs.Directory.{Listing, directory-is, slot-at, length-slots, spot, spot-sector, placed-spot, behind}
+use Rattle.laws.specs.Slots.{length-slots}
+use Rattle.chains.specs.Directory.{Listing, directory-is, slot-at, spot, spot-sector, placed-spot, behind}
 use Rattle.laws.specs.Stores.{puts-off, puts-at}
 use Rattle.demands.specs.Ledger.{Block, closed, listing, Ledger, Request, Fate, denied, granted, setBlock, entryOf, directoryOpened, shownNext, fetched, request, file}
 use Rattle.met.specs.Relation.{tb, opens, Listed, Keeps, Agrees, tp-same}

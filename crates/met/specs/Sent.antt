@@ -70,11 +70,6 @@ concat-last [] d h = absurd (omega arith)
 concat-last (x ∷ []) d h = append-nil d
 concat-last (x ∷ y ∷ ds) d h = ap (λ (l : List ℕ). x ++ l) (concat-last (y ∷ ds) d (omega arith)) ∙ sym (append-assoc x (concat (front (y ∷ ds))) d)
 
-pub length-last : {A : Type 0} (ds : List A) (d : A) → length (setLast ds d) ≡ length ds
-length-last [] d = refl
-length-last (x ∷ []) d = refl
-length-last (x ∷ y ∷ ds) d = ap suc (length-last (y ∷ ds) d)
-
 pad-full : (l : List ℕ) → padTo (length l) l ≡ l
 unfolding padTo
 pad-full [] = refl

@@ -1,33 +1,22 @@
 -- The numbers of an accepted census fit two bytes.
-use mathlib.Core.Path.{_≡_, refl, sym, ap}
+use mathlib.Core.Path.{sym}
 use mathlib.Core.Logic.{inl, inr}
 use mathlib.Core.List.{List, [], _∷_}
-use Prim.Native.Nat.{ℕ, zero, suc, _+_, _*_, _≤_, _<_}
+use Prim.Native.Nat.{ℕ, zero, suc, _*_, _≤_, _<_}
 use native.Mathlib.Omega.{arith}
-use lib.ListN.{length, getD, length-append}
+use lib.ListN.{length, getD}
 use Rattle.rules.specs.Bytes.{zeros}
 use Rattle.rules.specs.Image.{lastTrack, perTrack}
-use Rattle.rules.specs.Directory.{mostOfDirectory, firstOfDirectory, nextOf, sectorsFrom, directory, slotsAt, firstSlotOf, slotsOf, slots}
+use Rattle.rules.specs.Directory.{mostOfDirectory, firstOfDirectory, nextOf, sectorsFrom, directory, slots}
 use Rattle.rules.specs.Census.{listed, owners}
 use Rattle.laws.specs.Each.{Each, each-so}
 use Rattle.laws.specs.Addresses.{Shaped, data-few}
-use Rattle.laws.specs.Slots.{onNext-all}
+use Rattle.laws.specs.Slots.{onNext-all, length-slots}
 use Rattle.laws.specs.Bytes.{length-zeros}
 use Rattle.laws.specs.Surveys.{SaneImage, dataSectors, listed-below, census-accepts}
 use Rattle.census_laws.specs.Accepted.{Owner, accepted}
 
 -- ---- how many slots there are
-
-length-slots-at : (at n : ℕ) → length (slotsAt at n) ≡ n
-unfolding slotsAt
-length-slots-at at zero = refl
-length-slots-at at (suc n) = ap suc (length-slots-at (at + 24) n)
-
-length-slots : (ks : List ℕ) → length (slotsOf ks) ≡ 10 * length ks
-unfolding slotsOf
-length-slots [] = refl
-length-slots (k ∷ ks) =
-    omega (arith, length-append (slotsAt (firstSlotOf k) 10) (slotsOf ks), length-slots-at (firstSlotOf k) 10, length-slots ks)
 
 few-sectors : (img : List ℕ) (S n k : ℕ) → length (sectorsFrom img S n k) ≤ n
 unfolding sectorsFrom

@@ -149,7 +149,7 @@ cmp one logs/ONE.TXT
 cmp two logs/TWO.TXT
 does get --trim --files disk THREE.LOG
 cmp THREE.LOG three
-refuses 3 "three: it is there already" get disk THREE.LOG=three
+refuses 3 "flexbox: three: it is there already; --replace would replace it" get disk THREE.LOG=three
 refuses 3 "the image itself" get --replace disk THREE.LOG=disk
 does get --replace --trim disk ONE.TXT=three
 cmp three logs/ONE.TXT
@@ -161,6 +161,20 @@ refuses 2 "./five: two files would be written to it" get disk ONE.TXT=five TWO.T
 refuses 2 "./three: two files would be written to it" get --replace disk ONE.TXT=three TWO.TXT=./three
 cmp three logs/ONE.TXT
 [ ! -e five ] || fail "a refused get made a file"
+for way in "" --replace; do
+    # shellcheck disable=SC2086
+    refuses 3 "flexbox: logs: this is a folder" get $way disk ONE.TXT=five TWO.TXT=logs
+    [ ! -e five ] || fail "a refused get made a file"
+done
+refuses 3 "flexbox: /dev/null: it is there already; --replace would write to it" get disk ONE.TXT=/dev/null
+does get --replace disk ONE.TXT=/dev/null
+ln -s three link
+refuses 3 "flexbox: link: it is there already; --replace would write to it" get disk TWO.TXT=link
+does get --replace --trim disk TWO.TXT=link
+[ -L link ] || fail "get replaced a link"
+cmp three logs/TWO.TXT
+rm link
+cp logs/ONE.TXT three
 refuses 2 "several files need" put disk A.TXT B.TXT
 refuses 2 "named twice" put disk A.TXT=one A=two
 refuses 3 "nowhere" put disk A.TXT=nowhere

@@ -105,15 +105,23 @@ fn look_at_places(words: &Words, pieces: &[Piece], image: &Metadata) -> Result<(
     Ok(())
 }
 
-/// A file that is there stays unless it is to be replaced; the image itself is never written to.
+/// A file that is there stays unless it is to be replaced; the image itself is never written to, and a folder can't be.
 fn unfit(path: &Path, replace: bool, image: &Metadata) -> Option<&'static str> {
-    if fs::metadata(path).map_or(false, |there| is_same(&there, image)) {
-        return Some("this is the image itself");
+    match fs::metadata(path) {
+        Ok(there) if is_same(&there, image) => Some("this is the image itself"),
+        Ok(there) if there.is_dir() => Some("this is a folder"),
+        _ if replace => None,
+        _ => fs::symlink_metadata(path).ok().map(|there| way_out(&there)),
     }
-    (!replace && fs::symlink_metadata(path).is_ok()).then_some(THERE)
 }
 
-const THERE: &str = "it is there already; --replace would replace it";
+/// What is no plain file is written to, as `write` does it.
+fn way_out(there: &Metadata) -> &'static str {
+    match there.is_file() {
+        true => "it is there already; --replace would replace it",
+        false => "it is there already; --replace would write to it",
+    }
+}
 
 /// The same for all paths that lead to one file, be it there or not.
 fn place(path: &Path) -> PathBuf {
@@ -155,7 +163,7 @@ fn put_over(path: &Path, old: &Metadata, bytes: &[u8]) -> Result<(), Failure> {
 fn write_new(path: &Path, bytes: &[u8]) -> Result<(), Failure> {
     let opened = OpenOptions::new().write(true).create_new(true).open(path);
     let mut file = opened.map_err(|error| match error.kind() {
-        io::ErrorKind::AlreadyExists => unwritten(path, THERE),
+        io::ErrorKind::AlreadyExists => unwritten(path, "another file was put there meanwhile; not written"),
         _ => unwritten(path, error),
     })?;
     file.write_all(bytes).map_err(|error| {
