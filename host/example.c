@@ -99,6 +99,17 @@ static void be_refused(void) {
     printf("NONE.TXT: %s\n", (const char *)text);
 }
 
+/* Whose a sector is: nobody's, the directory's where it has grown, or the file's with this slot. */
+static void print_owner(int sector, int owner) {
+    if (owner == FLEX_OWNER_FREE) {
+        printf("sector %d free\n", sector);
+    } else if (owner == FLEX_OWNER_DIRECTORY) {
+        printf("sector %d of the directory\n", sector);
+    } else {
+        printf("sector %d in slot %d\n", sector, owner);
+    }
+}
+
 static void take_census(void) {
     uint8_t sectors[2 * DATA_SECTORS];
     uint8_t owners[2 * DATA_SECTORS];
@@ -107,9 +118,7 @@ static void take_census(void) {
         fail("the census refused");
     }
     for (i = 0; i < DATA_SECTORS; i++) {
-        int sector = 256 * sectors[2 * i] + sectors[2 * i + 1];
-        int owner = 256 * owners[2 * i] + owners[2 * i + 1];
-        printf("sector %d %s %d\n", sector, owner == 0 ? "free" : "in slot", owner);
+        print_owner(256 * sectors[2 * i] + sectors[2 * i + 1], 256 * owners[2 * i] + owners[2 * i + 1]);
     }
 }
 

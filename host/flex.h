@@ -29,8 +29,8 @@ extern "C" {
 #endif
 
 /* The version of this header: 10000 * major + 100 * minor + patch, and as text. docs/HOST.md says what each part means. */
-#define FLEX_VERSION 600
-#define FLEX_VERSION_TEXT "0.6.0"
+#define FLEX_VERSION 700
+#define FLEX_VERSION_TEXT "0.7.0"
 
 /* The table: eight control blocks of 320 bytes. All zero means that all are closed. */
 #define FLEX_BLOCKS 8
@@ -52,7 +52,7 @@ extern "C" {
 #define FLEX_POSITION 30   /* 30-31, track and sector */
 #define FLEX_RECORD 32     /* 32-33, high byte first */
 #define FLEX_INDEX 34      /* of the next byte in the buffer */
-#define FLEX_PLACE 47      /* 47-49: track, sector and displacement of the slot */
+#define FLEX_PLACE 47      /* 47-49: track, sector and displacement of the slot, in any sector of the directory */
 #define FLEX_NEW_NAME 53   /* 53-63: name and extension for a rename. Opening a file sets byte 59 to 255, so preset all
                               eleven before a rename: otherwise it answers 21 */
 #define FLEX_BUFFER 64     /* 64-319: the sector at the position */
@@ -65,7 +65,8 @@ extern "C" {
 /* Function codes. "Idle" is activity 0 or 16. */
 #define FLEX_NEXT_BYTE 0      /* open for read: gives the next byte; open for write: takes one */
 #define FLEX_OPEN_READ 1      /* idle; the file by this name. Sets the function to 0 */
-#define FLEX_OPEN_WRITE 2     /* idle; a new file by this name and date. Sets the function to 0 */
+#define FLEX_OPEN_WRITE 2     /* idle; a new file by this name and date. Sets the function to 0. Where no slot is left the
+                                 directory takes the first free sector and keeps it for good */
 #define FLEX_CLOSE 4          /* open; a file closed unwritten is deleted */
 #define FLEX_REWIND 5         /* open for read: back to the first byte. Sets the function to 0 */
 #define FLEX_OPEN_DIRECTORY 6 /* idle */
@@ -81,11 +82,10 @@ extern "C" {
 #define FLEX_EXISTS 3            /* the name exists already */
 #define FLEX_NOT_FOUND 4         /* the name is not found */
 #define FLEX_DIRECTORY 5         /* the directory is not right, or the block's place is not a slot of it */
-#define FLEX_DIRECTORY_FULL 6    /* no deleted or never-used slot */
-#define FLEX_DISK_FULL 7         /* no free sector */
+#define FLEX_DISK_FULL 7         /* no free sector, for a byte or for a directory that has no slot left */
 #define FLEX_AT_END 8            /* end of the file or of the directory */
 #define FLEX_BAD_READ 9          /* bad address in reading or deleting */
-#define FLEX_BAD_WRITE 10        /* bad address in writing */
+#define FLEX_BAD_WRITE 10        /* bad address in writing, or where the directory is to grow; or it is at its longest */
 #define FLEX_WRITE_PROTECTED 11  /* the file is not to be deleted or renamed: attribute 128 */
 #define FLEX_DELETE_PROTECTED 12 /* the file is not to be deleted: attribute 64 */
 #define FLEX_NO_BLOCK 13         /* table length not 2,560, block number over 7, or close of a closed block */
@@ -100,6 +100,10 @@ extern "C" {
 #define FLEX_CENSUS_FREE 44      /* free chain not right */
 #define FLEX_CENSUS_FILE 45      /* a file's chain not right */
 #define FLEX_CENSUS_SECTORS 46   /* a data sector in no chain, or in two */
+
+/* Owners that the census lists beside the numbers of slots, which are at most 28,760. */
+#define FLEX_OWNER_FREE 0          /* in the free chain */
+#define FLEX_OWNER_DIRECTORY 65534 /* taken by the directory when it had no slot left */
 
 /*
  * Writes one byte of block fcb: offset 0 always; 3-14, 25-27, 30-31 and 53-63 while the block is idle. Answers 0, 13 or 18.
@@ -123,9 +127,9 @@ uint32_t flex_call(uint8_t *image, size_t image_len, uint8_t *table, size_t tabl
 /*
  * Checks the whole diskette and lists which chain holds each data sector. M and S are bytes 550 and 551 of the image; each
  * output has 2 * M * S bytes, two an entry, high byte first. Accepted: answers 0; `sectors` has the numbers of the data
- * sectors ((t - 1) * S + s - 1), free chain first, then the files in the order of their slots; `owners` has, place for
- * place, 0 for a free sector, else the slot's number, all slots counted from 1. 41, then 40, change nothing; 42 to 46 fill
- * both outputs with 255.
+ * sectors ((t - 1) * S + s - 1), free chain first, then those that the directory has taken, in its order, then the files in
+ * the order of their slots; `owners` has, place for place, FLEX_OWNER_FREE, FLEX_OWNER_DIRECTORY, or the slot's number, all
+ * slots of the directory counted from 1. 41, then 40, change nothing; 42 to 46 fill both outputs with 255.
  */
 uint32_t flex_census(const uint8_t *image, size_t image_len, uint8_t *sectors, size_t sectors_len, uint8_t *owners,
                      size_t owners_len);

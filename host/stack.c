@@ -3,7 +3,8 @@
  * call and a format less than CALL. host/manual-test gives it the numbers that docs/HOST.md and flex.h state.
  *
  * The work is done by a thread on a stack of our own, painted before; the deepest byte that lost its paint was used. The largest
- * diskette and the smallest are formatted, the census is taken of them, and every function that is served is called.
+ * diskette and the smallest are formatted, the census is taken of them, and every function that is served is called; then their
+ * directory has no slot left and grows, and the census is taken again.
  */
 #include <pthread.h>
 #include <stdio.h>
@@ -107,6 +108,25 @@ struct most {
     size_t census, calls, format;
 };
 
+/* Files that were open for write when the power failed take all slots of track 0; for one more the directory grows. */
+static void crowd(struct most *most) {
+    char name[] = "F000\0\0\0\0TXT";
+    size_t slots = 10 * (per - 4);
+    size_t i;
+    for (i = 0; i <= slots; i++) {
+        name[1] = (char)('0' + i / 100);
+        name[2] = (char)('0' + i / 10 % 10);
+        name[3] = (char)('0' + i % 10);
+        memset(table, 0, sizeof table);
+        most->calls = larger(most->calls, asked(FLEX_OPEN_WRITE, name, name));
+    }
+    if (table[FLEX_PLACE] == 0) {
+        fprintf(stderr, "stack: the directory did not grow\n");
+        exit(2);
+    }
+    most->census = larger(most->census, used(census, "a census"));
+}
+
 static void measure(struct most *most, size_t last_track, size_t per_track) {
     last = last_track;
     per = per_track;
@@ -114,6 +134,7 @@ static void measure(struct most *most, size_t last_track, size_t per_track) {
     most->format = larger(most->format, used(format, "a format"));
     most->census = larger(most->census, used(census, "a census"));
     most->calls = larger(most->calls, calls());
+    crowd(most);
 }
 
 /* Says and gives whether the work takes less than is stated. */

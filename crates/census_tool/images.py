@@ -31,9 +31,15 @@ def free(image, sectors):
     put(image, at(0, 3) + 29, *ends, 0, len(sectors))
 
 
-def slot(image, number, name, sectors):
-    """A live slot, counted from 1: name, extension TXT, start, end and size."""
-    place = at(0, 5) + 16 + 24 * (number - 1)
+def directory(image, sectors):
+    """The directory goes on in these sectors of track 1."""
+    put(image, at(0, 5), 1, sectors[0])
+    chain(image, sectors)
+
+
+def slot(image, number, name, sectors, sector=at(0, 5)):
+    """A live slot of a sector of the directory, counted from 1: name, extension TXT, start, end and size."""
+    place = sector + 16 + 24 * (number - 1)
     put(image, place, *(name.encode().ljust(8, b"\0") + b"TXT"))
     chain(image, sectors)
     put(image, place + 13, 1, sectors[0], 1, sectors[-1], 0, len(sectors))
@@ -87,6 +93,17 @@ def holes():
     return image
 
 
+def grown():
+    """The directory goes on in 1,4 and then in 1,2; A.TXT in slot 1, B.TXT in slot 12, C.TXT, of no sector, in slot 30."""
+    image = empty()
+    directory(image, [4, 2])
+    slot(image, 1, "A", [3])
+    slot(image, 2, "B", [1], at(1, 4))
+    put(image, at(1, 2) + 232, *b"C\0\0\0\0\0\0\0TXT")
+    free(image, [5])
+    return image
+
+
 def r44():
     """The free chain ends at 1,5 and says that it ends at 1,4."""
     image = empty()
@@ -125,7 +142,7 @@ def long():
 
 
 IMAGES = {
-    "empty": empty, "p4": p4, "41": r41, "42": r42, "43": r43, "holes": holes, "44": r44, "45": r45, "46": r46,
+    "empty": empty, "p4": p4, "41": r41, "42": r42, "43": r43, "holes": holes, "grown": grown, "44": r44, "45": r45, "46": r46,
     "shared": shared, "long": long,
 }
 

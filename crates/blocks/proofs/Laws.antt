@@ -11,7 +11,8 @@ use lib.Dec.{eqb, leb, ltb}
 use lib.ListN.{length, getD}
 use borrow.Author.Tests.{eq-eqb, ne-eqb, le-leb, lt-leb, lt-ltb, le-ltb, ltb-true, ltb-false}
 use Rattle.laws.specs.Tests.{pick-all}
-use Rattle.rules.specs.Bytes.{pick, within, part, over, one, same}
+use Rattle.rules.specs.Bytes.{pick, within, part, over, one, two, same}
+use Rattle.rules.specs.Image.{addressOf}
 use Rattle.rules.specs.Directory.{placeOf}
 use Rattle.rules.specs.Outcome.{Effect, Out, out, left}
 use Rattle.rules.specs.Block.{activityIn, counts, uses, usedBelow, idle, onTable, presettable, presetIn, extensions, extensionIn}
@@ -36,19 +37,19 @@ same-pick : (b : Bool) → b ≡ pick b true false
 same-pick true = refl
 same-pick false = refl
 
-module _ (tab : List ℕ) (at slot : ℕ) {t s d : ℕ} (p : t ≡ getD tab at 0) (q : s ≡ getD tab (at + 1) 0) (o : d ≡ getD tab (at + 1 + 1) 0) where
-  here : {w : Bool} → w ≡ pick (eqb t 0) (pick (eqb s ((slot / 256 + 1) % 256)) (pick (eqb d (slot % 256)) true false) false) false → w ≡ same (part tab at 3) (placeOf slot)
-  unfolding part same placeOf
-  here h = rw (← p, ← q, ← o) h
+module _ (tab : List ℕ) (S at slot : ℕ) {a t s d : ℕ} (w : a ≡ addressOf S (slot / 256)) (p : t ≡ getD tab at 0) (q : s ≡ getD tab (at + 1) 0) (o : d ≡ getD tab (at + 1 + 1) 0) where
+  here : {v : Bool} → v ≡ pick (eqb t (a / 256 % 256)) (pick (eqb s (a % 256)) (pick (eqb d (slot % 256)) true false) false) false → v ≡ same (part tab at 3) (placeOf S slot)
+  unfolding part same placeOf two one
+  here h = rw (← p, ← q, ← o, ← w) h
 
-  pub place-track : (t ≡ 0 → ⊥) → false ≡ same (part tab at 3) (placeOf slot)
-  place-track h = here (rw (ne-eqb t 0 h) refl)
+  pub place-track : (t ≡ a / 256 % 256 → ⊥) → false ≡ same (part tab at 3) (placeOf S slot)
+  place-track h = here (rw (ne-eqb t (a / 256 % 256) h) refl)
 
-  pub place-sector : t ≡ 0 → (s ≡ (slot / 256 + 1) % 256 → ⊥) → false ≡ same (part tab at 3) (placeOf slot)
-  place-sector e h = here (rw (eq-eqb t 0 e, ne-eqb s ((slot / 256 + 1) % 256) h) refl)
+  pub place-sector : t ≡ a / 256 % 256 → (s ≡ a % 256 → ⊥) → false ≡ same (part tab at 3) (placeOf S slot)
+  place-sector e h = here (rw (eq-eqb t (a / 256 % 256) e, ne-eqb s (a % 256) h) refl)
 
-  pub place-last : {r : Bool} → t ≡ 0 → s ≡ (slot / 256 + 1) % 256 → r ≡ eqb d (slot % 256) → r ≡ same (part tab at 3) (placeOf slot)
-  place-last {r} e h k = here (rw (eq-eqb t 0 e, eq-eqb s ((slot / 256 + 1) % 256) h, ← k) (same-pick r))
+  pub place-last : {r : Bool} → t ≡ a / 256 % 256 → s ≡ a % 256 → r ≡ eqb d (slot % 256) → r ≡ same (part tab at 3) (placeOf S slot)
+  place-last {r} e h k = here (rw (eq-eqb t (a / 256 % 256) e, eq-eqb s (a % 256) h, ← k) (same-pick r))
 
 -- ---- a block that uses a place
 

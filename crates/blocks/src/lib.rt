@@ -10,6 +10,16 @@ ghost use Rattle.rules.specs.Block.{blockAt, placeField, activityIn, counts, us
 use cells::get;
 use cells::put;
 use cells::store;
+use disk::address_of;
+
+// Where the fields of a block stand.
+const ERROR: usize = 1;
+
+const ACTIVITY: usize = 2;
+
+const EXTENSION: usize = 12;
+
+const PLACE: usize = 47;
 
 // Does a block of this activity count as using its place? One that writes does; one that reads only where readers count.
 fn is_counted(readers: bool, activity: u8) -> bool
@@ -25,41 +35,42 @@ fn is_counted(readers: bool, activity: u8) -> bool
 }
 
 // Is a block's place this slot?
-fn has_place(table: &[u8], f: u32, slot: u32) -> bool
-    ensures { λ r. ⌜ r ≡ same (part (now (table .entry)) (f + placeField) 3) (placeOf slot) ⌝ }
+fn has_place(table: &[u8], per: u8, f: u32, slot: u32) -> bool
+    ensures { λ r. ⌜ r ≡ same (part (now (table .entry)) (f + placeField) 3) (placeOf per slot) ⌝ }
 {
-    let at = f as usize + 47;
+    let a = address_of(per, slot / 256);
+    let at = f as usize + PLACE;
     let track = get(table, at);
     let sector = get(table, at + 1);
     let displacement = get(table, at + 1 + 1);
-    if track != 0 {
+    if track as usize != a / 256 % 256 {
         return false;
     }
-    if sector as u32 != (slot / 256 + 1) % 256 {
+    if sector as usize != a % 256 {
         return false;
     }
     displacement as u32 == slot % 256
 }
 
 // Does block n use the slot?
-fn is_user(readers: bool, table: &[u8], slot: u32, n: u8) -> bool
-    ensures { λ r. ⌜ r ≡ uses readers (now (table .entry)) (placeOf slot) n ⌝ }
+fn is_user(readers: bool, table: &[u8], per: u8, slot: u32, n: u8) -> bool
+    ensures { λ r. ⌜ r ≡ uses readers (now (table .entry)) (placeOf per slot) n ⌝ }
 {
     let f = 320 * n as u32;
-    let counted = is_counted(readers, get(table, f as usize + 2));
+    let counted = is_counted(readers, get(table, f as usize + ACTIVITY));
     if !counted {
         return false;
     }
-    has_place(table, f, slot)
+    has_place(table, per, f, slot)
 }
 
 // Does one of the eight blocks use the slot?
-pub fn in_use(readers: bool, table: &[u8], slot: u32) -> bool
-    ensures { λ r. ⌜ r ≡ inUse readers (now (table .entry)) (placeOf slot) ⌝ }
+pub fn in_use(readers: bool, table: &[u8], per: u8, slot: u32) -> bool
+    ensures { λ r. ⌜ r ≡ inUse readers (now (table .entry)) (placeOf per slot) ⌝ }
 {
     let mut left = 8u8;
     while left > 0 {
-        let used = is_user(readers, table, slot, left - 1);
+        let used = is_user(readers, table, per, slot, left - 1);
         if used {
             return true;
         }
@@ -72,7 +83,7 @@ pub fn in_use(readers: bool, table: &[u8], slot: u32) -> bool
 pub fn refuse(table: &mut [u8], f: u16, e: u8) -> u8
     ensures { λ r. ⌜ (r ≡ e) × (now (table .exit) ≡ over (now (table .entry)) (f + 1) (one e)) ⌝ }
 {
-    put(table, f as usize + 1, e);
+    put(table, f as usize + ERROR, e);
     e
 }
 
@@ -80,7 +91,7 @@ pub fn refuse(table: &mut [u8], f: u16, e: u8) -> u8
 fn is_idle(table: &[u8], f: u16) -> bool
     ensures { λ r. ⌜ r ≡ idle (activityIn (now (table .entry)) f) ⌝ }
 {
-    let activity = get(table, f as usize + 2);
+    let activity = get(table, f as usize + ACTIVITY);
     match activity {
         0 | 16 => true,
         _ => false,
@@ -162,7 +173,7 @@ fn extension_in(table: &mut [u8], f: u16, code: usize) -> u8
     if !free {
         return 0;
     }
-    let first = get(table, f as usize + 12);
+    let first = get(table, f as usize + EXTENSION);
     if first != 0 {
         return 0;
     }
@@ -170,7 +181,7 @@ fn extension_in(table: &mut [u8], f: u16, code: usize) -> u8
         return 0;
     }
     let default = extension_of(code);
-    store(table, f as usize + 12, &default);
+    store(table, f as usize + EXTENSION, &default);
     0
 }
 

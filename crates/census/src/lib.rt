@@ -4,8 +4,9 @@ ghost use Prim.Native.Nat.{_*_};
 ghost use lib.ListN.{length};
 ghost use Rattle.rules.specs.Bytes.{over};
 ghost use Rattle.rules.specs.Image.{freeCount};
-ghost use Rattle.rules.specs.Census.{survey, fault, concluded, owners, census};
-ghost use Rattle.census_laws.specs.Whole.{mended, chainsFault, ended, ending, sized};
+ghost use Rattle.rules.specs.Census.{survey, fault, concluded, census};
+ghost use Rattle.laws.specs.Addresses.{Shape};
+ghost use Rattle.census_laws.specs.Whole.{mended, chainsFault, ownersBy, ended, ending, sized};
 use cells::get2;
 use census_laws::Listing;
 use chainwalk::chain_at;
@@ -17,8 +18,14 @@ use outputs::are_new;
 use outputs::fill;
 use outputs::run;
 use slotwalk::has_twins;
+use slotwalk::list_directory;
 use slotwalk::list_files;
 use slotwalk::own_files;
+
+// The owner that stands for the directory, and where a slot would begin whose start is the first free sector.
+const DIRECTORY: u16 = 65534;
+
+const BEFORE_FREE: u32 = 528;
 
 // The free count.
 fn free_count(image: &[u8]) -> u16
@@ -27,18 +34,27 @@ fn free_count(image: &[u8]) -> u16
     get2(image, 256 * 2 + 33)
 }
 
-// The owners in order: 0 of the free chain's sectors, then the slots' numbers.
-fn own_all(image: &[u8], per: u8, out: &mut [u16])
-    ensures { λ _. ⌜ now (out .exit) ≡ over (now (out .entry)) 0 (owners (now (image .entry)) per) ⌝ }
+// The owners in order: 0 of the free chain's sectors, 65,534 of the directory's own, then the slots' numbers.
+fn own_all(image: &[u8], last: u8, per: u8, own: u16, out: &mut [u16])
+    ensures { λ _. ⌜ now (out .exit) ≡ over (now (out .entry)) 0 (ownersBy (now (image .entry)) last per own) ⌝ }
 {
     let count = free_count(image);
     run(out, 0, count as usize, 0);
-    own_files(image, per, out, count);
+    run(out, count as usize, own as usize, DIRECTORY);
+    own_files(image, last, per, out, count as u32 + own as u32);
 }
 
-// The end, where n sectors were listed: 46, or the owners.
-fn end(image: &[u8], per: u8, n: usize, sectors: &[u16], owners: &mut [u16]) -> u8
-    ensures { λ r. ⌜ ended r (now (owners .exit)) ≡ ending (now (image .entry)) per n (now (sectors .entry)) (now (owners .entry)) ⌝ }
+// The end, where n sectors were listed, of which so many are the directory's own: 46, or the owners.
+fn end(
+    image: &[u8],
+    last: u8,
+    per: u8,
+    own: u16,
+    n: usize,
+    sectors: &[u16],
+    owners: &mut [u16],
+) -> u8
+    ensures { λ r. ⌜ ended r (now (owners .exit)) ≡ ending (now (image .entry)) last per own n (now (sectors .entry)) (now (owners .entry)) ⌝ }
 {
     if n != sectors.len() {
         return 46;
@@ -47,38 +63,40 @@ fn end(image: &[u8], per: u8, n: usize, sectors: &[u16], owners: &mut [u16]) -> 
     if !once {
         return 46; // a sector twice
     }
-    own_all(image, per, owners);
+    own_all(image, last, per, own, owners);
     0
 }
 
-// The chains: 44, 45, and the end. The information record has the free chain as a slot at 528 would.
+// The chains, the directory's between the free one and the files': 44, 45, and the end. The information record has the free chain
+// as a slot at `BEFORE_FREE` would.
 fn chains(image: &[u8], last: u8, per: u8, sectors: &mut [u16], owners: &mut [u16]) -> u8
-    requires { ⌜ (length (now sectors) ≡ last * per) × (length (now owners) ≡ last * per) ⌝ }
-    ensures { λ r. ⌜ mended r (now (sectors .exit)) (now (owners .exit)) ≡ concluded (now (image .entry)) per (last * per) (chainsFault (now (image .entry)) last per) ⌝ }
+    requires { ⌜ Shape last per × (length (now sectors) ≡ last * per) × (length (now owners) ≡ last * per) ⌝ }
+    ensures { λ r. ⌜ mended r (now (sectors .exit)) (now (owners .exit)) ≡ concluded (now (image .entry)) last per (chainsFault (now (image .entry)) last per) ⌝ }
 {
-    let free = chain_at(image, last, per, 528, sectors, 0);
+    let free = chain_at(image, last, per, BEFORE_FREE, sectors, 0);
     match free {
-        Listing::Upto(_) => {}
+        Listing::Many(_) => {}
         Listing::Wrong => return 44,
     }
     let count = free_count(image);
-    let files = list_files(image, last, per, sectors, count);
+    let own = list_directory(image, last, per, sectors, count);
+    let files = list_files(image, last, per, sectors, count as u32 + own as u32);
     match files {
-        Listing::Upto(n) => end(image, per, n, sectors, owners),
+        Listing::Many(n) => end(image, last, per, own, n, sectors, owners),
         Listing::Wrong => 45,
     }
 }
 
-// Directory and names, 42 and 43, before the chains.
+// Directory and names, 42 and 43, before the chains. The owners' output is lent for a table of names: it is overwritten later, or filled.
 fn tried(image: &[u8], last: u8, per: u8, sectors: &mut [u16], owners: &mut [u16]) -> u8
-    requires { ⌜ (length (now sectors) ≡ last * per) × (length (now owners) ≡ last * per) ⌝ }
-    ensures { λ r. ⌜ mended r (now (sectors .exit)) (now (owners .exit)) ≡ concluded (now (image .entry)) per (last * per) (fault (now (image .entry)) last per) ⌝ }
+    requires { ⌜ Shape last per × (length (now sectors) ≡ last * per) × (length (now owners) ≡ last * per) ⌝ }
+    ensures { λ r. ⌜ mended r (now (sectors .exit)) (now (owners .exit)) ≡ concluded (now (image .entry)) last per (fault (now (image .entry)) last per) ⌝ }
 {
-    let right = directory_right(image, per);
+    let right = directory_right(image, last, per);
     if !right {
         return 42;
     }
-    let twins = has_twins(image, per);
+    let twins = has_twins(image, last, per, owners);
     if twins {
         return 43;
     }
@@ -87,6 +105,7 @@ fn tried(image: &[u8], last: u8, per: u8, sectors: &mut [u16], owners: &mut [u16
 
 // Lengths, 40, before that. A refusal after them fills both outputs.
 fn sized(image: &[u8], last: u8, per: u8, sectors: &mut [u16], owners: &mut [u16]) -> u8
+    requires { ⌜ Shape last per ⌝ }
     ensures { λ r. ⌜ survey r (now (sectors .exit)) (now (owners .exit)) ≡ sized (now (image .entry)) last per (now (sectors .entry)) (now (owners .entry)) ⌝ }
 {
     let n = data_sectors(last, per) as usize;
@@ -105,7 +124,7 @@ fn sized(image: &[u8], last: u8, per: u8, sectors: &mut [u16], owners: &mut [u16
     e
 }
 
-// The census: its answer; of a diskette in order the numbers of its data sectors, free chain first and then file by file, and
+// The census: its answer; of a diskette in order the numbers of its data sectors, the free chain's, the directory's and then file by file, and
 // each one's owner.
 pub fn census(image: &[u8], sectors: &mut [u16], owners: &mut [u16]) -> u8
     ensures { λ r. ⌜ survey r (now (sectors .exit)) (now (owners .exit)) ≡ census (now (image .entry)) (now (sectors .entry)) (now (owners .entry)) ⌝ }

@@ -67,14 +67,14 @@ bytes-full (suc n) =
 bytes-of : Survey → Survey
 bytes-of (survey e us vs) = survey e (asBytes us) (asBytes vs)
 
-concluded-bytes : (img : List ℕ) (S n e : ℕ) → bytes-of (concluded img S n e) ≡ hostConcluded img S (2 * n) e
+concluded-bytes : (img : List ℕ) (M S e : ℕ) → bytes-of (concluded img M S e) ≡ hostConcluded img M S e
 unfolding concluded hostConcluded bytes-of
-concluded-bytes img S n e = go (eqb e 0)
+concluded-bytes img M S e = go (eqb e 0)
   where
-    go : (b : Bool) → bytes-of (pick b (survey 0 (listed img S) (owners img S)) (survey e (replicate n 65535) (replicate n 65535)))
-        ≡ pick b (survey 0 (asBytes (listed img S)) (asBytes (owners img S))) (survey e (replicate (2 * n) 255) (replicate (2 * n) 255))
+    go : (b : Bool) → bytes-of (pick b (survey 0 (listed img M S) (owners img M S)) (survey e (replicate (M * S) 65535) (replicate (M * S) 65535)))
+        ≡ pick b (survey 0 (asBytes (listed img M S)) (asBytes (owners img M S))) (survey e (replicate (2 * (M * S)) 255) (replicate (2 * (M * S)) 255))
     go true = refl
-    go false = ap₂ (survey e) (bytes-full n) (bytes-full n)
+    go false = ap₂ (survey e) (bytes-full (M * S)) (bytes-full (M * S))
 
 module _ (img xs ys : List ℕ) (M S : ℕ) (p : Shaping img M S) where
   wide : 2 * (M * S) ≡ 2 * (lastTrack img * perTrack img)
@@ -113,7 +113,7 @@ pub host-both : (img xs ys us vs : List ℕ) {e : ℕ} {us′ vs′ xs′ ys′ 
     → survey e xs′ ys′ ≡ hostCensus img xs ys
 unfolding hostCensus census bytes-of
 host-both img xs ys us vs {e} {us′} {vs′} {xs′} {ys′} s k m l₁ l₂ p₁ p₂ c d₁ d₂ =
-    let q : survey e us′ vs′ ≡ concluded img (perTrack img) (lastTrack img * perTrack img) (fault img (lastTrack img) (perTrack img))
+    let q : survey e us′ vs′ ≡ concluded img (lastTrack img) (perTrack img) (fault img (lastTrack img) (perTrack img))
     = rw (s, eq-eqb (length us) (lastTrack img * perTrack img) k, eq-eqb (length vs) (lastTrack img * perTrack img) (m ∙ k)) at c in
     let a : xs′ ≡ asBytes us′ = d₁ ∙ over-exact xs (asBytes us′) (omega (arith, length-bytes us′)) in
     let b : ys′ ≡ asBytes vs′ = d₂ ∙ over-exact ys (asBytes vs′) (omega (arith, length-bytes vs′)) in
@@ -124,7 +124,7 @@ host-both img xs ys us vs {e} {us′} {vs′} {xs′} {ys′} s k m l₁ l₂ p�
       a,
       b,
     )
-    (ap bytes-of q ∙ concluded-bytes img (perTrack img) (lastTrack img * perTrack img) (fault img (lastTrack img) (perTrack img)))
+    (ap bytes-of q ∙ concluded-bytes img (lastTrack img) (perTrack img) (fault img (lastTrack img) (perTrack img)))
 
 -- ---- room for the numbers, k of them
 

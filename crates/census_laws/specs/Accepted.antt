@@ -1,5 +1,5 @@
--- What an accepted census says: M·S numbers, each data sector's once, and beside each its owner, 0 or the number of a live slot. And
--- that no second outcome fits the census.
+-- What an accepted census says: M·S numbers, each data sector's once, and beside each its owner: 0, 65,534 for the directory, or the number
+-- of a live slot, which is neither. And that no second outcome fits the census.
 use mathlib.Core.Path.{_≡_, refl, sym}
 use mathlib.Core.Logic.{_⊎_, inl, inr}
 use mathlib.Core.Bool.{Bool, true, false}
@@ -9,9 +9,11 @@ use native.Mathlib.Omega.{arith}
 use lib.ListN.{length, getD, replicate}
 use Rattle.rules.specs.Bytes.{pick}
 use Rattle.rules.specs.Image.{lastTrack, perTrack, freeCount}
-use Rattle.rules.specs.Directory.{slots, live, sizeAt}
-use Rattle.rules.specs.Census.{fileOwners, filesOwners, listed, owners, tally, Survey, survey, census}
+use Rattle.rules.specs.Directory.{directory, slots, live, sizeAt}
+use Rattle.rules.specs.Census.{fileOwners, filesOwners, directoryNumbers, directoryOwner, listed, owners, tally, Survey, survey, census}
 use Rattle.laws.specs.Each.{Each, each-append, each-so, each-at}
+use Rattle.laws.specs.Addresses.{Shape}
+use Rattle.laws.specs.Slots.{numbers-fit}
 use Rattle.laws.specs.Surveys.{dataSectors, length-listed, listed-below, length-owners, census-is}
 use Rattle.census_laws.specs.Marks.{once-is}
 
@@ -41,16 +43,23 @@ files-owned img k (o ∷ os) =
     (each-so (NumberOf img (k + 1) os) (NumberOf img k (o ∷ os)) (filesOwners img (k + 1) os)
     (λ v p. (suc (p .0), omega (arith, p .1), omega (arith, p .2), p .3)) (files-owned img (k + 1) os))
 
--- 0, or the number of a live slot
-abbrev pub Owner : List ℕ → ℕ → ℕ → Type 0
-Owner img S v = (v ≡ 0) ⊎ NumberOf img 1 (slots img S) v
+-- 0, the directory's, or the number of a live slot
+abbrev pub Owner : List ℕ → ℕ → ℕ → ℕ → Type 0
+Owner img M S v = (v ≡ 0) ⊎ ((v ≡ directoryOwner) ⊎ NumberOf img 1 (slots img M S) v)
 
-owners-owned : (img : List ℕ) (S : ℕ) → Each (Owner img S) (owners img S)
+-- the three kinds are told apart: a slot's number is neither 0 nor the directory's
+pub number-apart : (img : List ℕ) (M S v : ℕ) → Shape M S → NumberOf img 1 (slots img M S) v → (0 < v) × (v < directoryOwner)
+number-apart img M S v z p = (omega (arith, p .2), omega (arith, p .1, p .2, numbers-fit img M S z))
+
+owners-owned : (img : List ℕ) (M S : ℕ) → Each (Owner img M S) (owners img M S)
 unfolding owners
-owners-owned img S =
-    each-append (Owner img S) (replicate (freeCount img) 0) (filesOwners img 1 (slots img S))
-    (each-replicate (Owner img S) (freeCount img) 0 (inl refl))
-    (each-so (NumberOf img 1 (slots img S)) (Owner img S) (filesOwners img 1 (slots img S)) (λ v p. inr p) (files-owned img 1 (slots img S)))
+owners-owned img M S =
+    let d = length (directoryNumbers S (directory img M S)) in
+    each-append (Owner img M S) (replicate (freeCount img) 0) _
+    (each-replicate (Owner img M S) (freeCount img) 0 (inl refl))
+    (each-append (Owner img M S) (replicate d directoryOwner) (filesOwners img 1 (slots img M S))
+    (each-replicate (Owner img M S) d directoryOwner (inr (inl refl)))
+    (each-so (NumberOf img 1 (slots img M S)) (Owner img M S) (filesOwners img 1 (slots img M S)) (λ v p. inr (inr p)) (files-owned img 1 (slots img M S))))
 
 -- ---- the accepted census
 
@@ -59,21 +68,23 @@ pub record Accepted (img xs ys : List ℕ) : Type 0 where
   pub once : (k : ℕ) → k < dataSectors img → tally k xs ≡ 1
   pub only : (i : ℕ) → i < length xs → getD xs i 0 < dataSectors img
   pub beside : length ys ≡ length xs
-  pub owner : (i : ℕ) → i < length ys → Owner img (perTrack img) (getD ys i 0)
+  pub owner : (i : ℕ) → i < length ys → Owner img (lastTrack img) (perTrack img) (getD ys i 0)
 
 pub accepted : (img xs ys xs₀ ys₀ : List ℕ) → survey 0 xs ys ≡ census img xs₀ ys₀ → Accepted img xs ys
 accepted img xs ys xs₀ ys₀ e =
     let r = census-is img xs₀ ys₀ 0 xs ys (sym e) in
     let s = r .sane refl in
+    let h = r .shaped (λ q. omega arith) .shape .sectors in
+    let M = lastTrack img in
     let S = perTrack img in
     let lists = r .accepted refl in
     rw (lists .0, lists .1)
     (record {
-      numbers = length-listed img (lastTrack img) S s;
-      once = once-is (dataSectors img) (listed img S) (s .once);
-      only = λ i b. each-at (λ (x : ℕ). x < dataSectors img) (listed img S) i 0 (listed-below img (lastTrack img) S s) b;
-      beside = length-owners img S;
-      owner = λ i b. each-at (Owner img S) (owners img S) i 0 (owners-owned img S) b;
+      numbers = length-listed img M S h s;
+      once = once-is (dataSectors img) (listed img M S) (s .once);
+      only = λ i b. each-at (λ (x : ℕ). x < dataSectors img) (listed img M S) i 0 (listed-below img M S h s) b;
+      beside = length-owners img M S;
+      owner = λ i b. each-at (Owner img M S) (owners img M S) i 0 (owners-owned img M S) b;
     })
 
 -- ---- no second outcome fits: answer and both outputs

@@ -3,5 +3,7 @@ pub mod Limits
 pub mod Marks
 pub mod Stored
 pub mod Walks
+pub mod Numbered
+pub mod Table
 pub mod Whole
 pub mod Accepted

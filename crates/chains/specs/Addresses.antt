@@ -2,13 +2,14 @@
 use mathlib.Core.Path.{_≡_, refl, sym, ap, _∙_}
 use mathlib.Core.Bool.{Bool, true, false}
 use mathlib.Core.List.{List}
-use Prim.Native.Nat.{ℕ, zero, suc, _+_, _*_, _/_, _%_, _≤_, _<_}
-use native.Mathlib.Nat.{div-add-mod'}
+use Prim.Native.Nat.{ℕ, zero, suc, _+_, _*_, _≤_, _<_}
+use native.Mathlib.Nat.{mul-le-mul-right}
 use native.Mathlib.Omega.{arith}
 use lib.ListN.{length}
-use Rattle.rules.specs.Image.{index, isData, shapeRight, lastTrack, perTrack}
+use Rattle.rules.specs.Image.{index, addressOf, isData, shapeRight, lastTrack, perTrack}
 use Rattle.rules.specs.Directory.{isDirectory}
-use Rattle.laws.specs.Addresses.{Shape, sectors-many, shape-true, data-is, data-sector, data-low, data-high, data-true, directory-is, directory-true, index-directory, addressOf, address-index, address-lies, address-small, index-address}
+use Rattle.laws.specs.Addresses.{Shape, sectors-many, shape-true, data-is, data-sector, data-low, data-high, data-true, directory-is, directory-true, index-high, address-index, address-lies, address-small, index-address}
+use Rattle.laws.specs.Slots.{Addressed}
 use Rattle.laws.specs.Tests.{clash}
 
 -- a test that holds and does not
@@ -50,23 +51,12 @@ module _ (M S : ℕ) (z : Shape M S) (x : ℕ) (lo : 1 ≤ x) (hi : x < (M + 1) 
   data-adr h =
       ap (isData M S) is ∙ data-true M S (addressOf S x) (address-lies 1 M S x (omega arith) hi (omega (arith, z)) (omega (arith, z)) (omega (arith, z)))
 
-  -- a sector of track 0 behind the first four
-  pub directory-adr : 4 ≤ x → x < S → (adr S x ≡ x + 1) × (isDirectory S (adr S x) ≡ true)
-  unfolding addressOf
-  directory-adr h k =
-      let l = address-lies 0 0 S x (omega arith) (omega arith) (omega arith) (omega (arith, z)) (omega (arith, z)) in
-      let d : x / S ≡ 0 = go (x / S) refl in
-      let m : x % S ≡ x = omega (arith, div-add-mod' x S, ap (λ (n : ℕ). n * S) d) in
-      let e : adr S x ≡ x + 1 = omega (arith, is, d, m) in
-      let q : addressOf S x ≡ x + 1 = sym is ∙ e in (
-        e,
-        ap (isDirectory S) is ∙ directory-true S (addressOf S x)
-            (record { track-low = l .track-low; track-high = l .track-high; sector-low = omega (arith, q, z); sector-high = l .sector-high }),
-      )
-    where
-      go : (q : ℕ) → x / S ≡ q → q ≡ 0
-      go zero e = refl
-      go (suc q) e = absurd (omega (arith, div-add-mod' x S, ap (λ (n : ℕ). n * S) e))
+  -- a sector behind the first four
+  pub directory-adr : 4 ≤ x → isDirectory M S (adr S x) ≡ true
+  directory-adr h =
+      ap (isDirectory M S) is
+      ∙ directory-true M S (addressOf S x) (address-lies 0 M S x (omega arith) hi (omega (arith, z)) (omega (arith, z)) (omega (arith, z)))
+      (omega (arith, ap (index S) is, index-adr))
 
 -- an address that passes the test of a data sector is that of its index
 pub data-index : (M S : ℕ) → Shape M S → (a : ℕ) → a < 65536 → isData M S a ≡ true
@@ -77,11 +67,16 @@ data-index M S z a h d =
     (adr-is S (index S a) (omega (arith, low, z)) ∙ address-index M S a (data-sector M S a l) h, low, data-high M S a l)
 
 -- the same of a directory sector
-pub directory-index : (S : ℕ) → (a : ℕ) → a < 65536 → isDirectory S a ≡ true → (index S a + 1 ≡ a) × (4 ≤ index S a) × (index S a < S)
-directory-index S a b d =
-    let l = directory-is S a d in
-    let e = index-directory S a l in
-    (omega (arith, e, l), omega (arith, e, l), omega (arith, e, l))
+pub directory-index : (M S : ℕ) → Shape M S → (a : ℕ) → a < 65536 → isDirectory M S a ≡ true
+    → (adr S (index S a) ≡ a) × (4 ≤ index S a) × (index S a < (M + 1) * S)
+directory-index M S z a b d =
+    let l = directory-is M S a d in
+    let low = l .1 (z .sectors) in
+    (adr-is S (index S a) (omega (arith, low)) ∙ address-index M S a (l .0) b, low, index-high 0 M S a (l .0))
+
+-- a sector's address has two bytes
+pub addressed : (M S : ℕ) → Shape M S → (k : ℕ) → k < (M + 1) * S → Addressed S k
+addressed M S z k h = let t : (M + 1) * S ≤ (255 + 1) * S = mul-le-mul-right S (omega (arith, z)) in (omega (arith, z), omega (arith, h, t))
 
 -- ---- the shape, with M and S by name
 

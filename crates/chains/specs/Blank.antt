@@ -7,21 +7,21 @@ use Prim.Native.Nat.{ℕ, zero, suc, _+_, _-_, _*_, _/_, _%_, _≤_, _<_}
 use native.Mathlib.Nat.{mul-le-mul-right}
 use native.Mathlib.Omega.{arith}
 use lib.ListN.{length, replicate}
-use borrow.Author.Tests.{eq-eqb}
+use borrow.Author.Tests.{eq-eqb, lt-ltb}
 use Rattle.rules.specs.Bytes.{byteAt, wordAt, zeros}
-use Rattle.rules.specs.Image.{infoSector, firstFree, freeCount}
-use Rattle.rules.specs.Directory.{slotsAt, slotsOf, firstSlotOf, directoryRight, directory, slots, neverUsed, live}
-use Rattle.rules.specs.Census.{twins, chainRight, numbersFrom, freeRight, fileRight, filesRight, fileNumbers, fileOwners, filesNumbers, filesOwners, listed, owners, survey, census}
+use Rattle.rules.specs.Image.{infoSector, firstFree, freeCount, addressOf}
+use Rattle.rules.specs.Directory.{slotsAt, slotsOf, firstSlotOf, directoryRight, directory, slots, neverUsed, live, lastOf}
+use Rattle.rules.specs.Census.{twins, chainRight, numbersFrom, freeRight, fileRight, filesRight, fileNumbers, fileOwners, filesNumbers, filesOwners, directoryNumbers, listed, owners, survey, census}
 use Rattle.rules.specs.Format.{linkUp, blankSector, blank}
 use Rattle.laws.specs.Bytes.{word-same}
 use Rattle.laws.specs.Each.{Each, each-append}
-use Rattle.laws.specs.Addresses.{Shape, data-few, sectors-many, addressOf, address-at}
+use Rattle.laws.specs.Addresses.{Shape, data-few, sectors-many, address-at}
 use Rattle.laws.specs.Surveys.{Sane, census-accepts}
 use Rattle.laws.specs.Blank.{link-directory, link-last, link-behind, length-blank, blank-at, sector-link, sector-zero, info-first, info-last, info-count, info-shape}
 use Rattle.chains.specs.Tally.{tally}
 use Rattle.chains.specs.Once.{Once, once-le, rising, length-rising, rising-once}
 use Rattle.chains.specs.Addresses.{adr, adr-zero, adr-is, Sized}
-use Rattle.chains.specs.Chain.{first, lastOf, Seg, Chain}
+use Rattle.chains.specs.Chain.{first, Seg, Chain}
 use Rattle.chains.specs.Directory.{Listing, directory-is}
 use Rattle.chains.specs.Walk.{chainAt, numbers, numbers-walk, AllData, chain-complete, each-complete}
 
@@ -141,14 +141,13 @@ module _ (M S : ℕ) (z : Shape M S) (label : List ℕ) (volume month day year :
   ds-once : Once 4 (4 + (S - 4)) ds
   ds-once = rising-once 4 (S - 4)
 
-  listing : Listing S ds
+  listing : Listing M S ds
   listing =
       record {
         head = head (S - 4) (omega (arith, z));
         some = omega (arith, z, length-rising 4 (S - 4));
-        few = omega (arith, length-rising 4 (S - 4));
         low = ds-once .low;
-        high = λ k t. omega (arith, z, ds-once .high k t);
+        high = λ k t. let e : (M + 1) * S ≡ M * S + S = omega arith in omega (arith, z, ds-once .high k t, e);
         once = once-le 4 (4 + (S - 4)) ds ds-once;
       }
     where
@@ -203,10 +202,10 @@ module _ (M S : ℕ) (z : Shape M S) (label : List ℕ) (volume month day year :
           ap (adr S) (last-rising S n 0) ∙ adr-is S (S + n) (omega (arith, z)) ∙ address-at S M (S - 1) (S + n) (omega (arith, z)) (omega (arith, z)) ∙ omega (arith, z)
 
   -- no slot is live
-  directory-right : (directoryRight img S ≡ true) × (directory img S ≡ ds)
+  directory-right : (directoryRight img M S ≡ true) × (directory img M S ≡ ds)
   directory-right = directory-is M S z img ds listing ds-linked
 
-  dead : Dead img M S (slots img S)
+  dead : Dead img M S (slots img M S)
   dead =
       rw (directory-right .1)
       (dead-slots img M S 4 (S - 4)
@@ -215,28 +214,37 @@ module _ (M S : ℕ) (z : Shape M S) (label : List ℕ) (volume month day year :
   free-right : (chainAt S img 541 ≡ free) × (chainRight img M S (wordAt img 541) (wordAt img 543) (wordAt img 545) ≡ true)
   free-right = chain-complete M S z img 541 free free-data (omega (arith, length-rising S (M * S))) chain
 
+  -- its directory is on track 0
+  none-grown : directoryNumbers S (directory img M S) ≡ []
+  unfolding directoryNumbers
+  none-grown = ap (directoryNumbers S) (directory-right .1) ∙ go 4 (S - 4) (omega (arith, z))
+    where
+      go : (k n : ℕ) → k + n ≤ S → directoryNumbers S (rising k n) ≡ []
+      go k zero h = refl
+      go k (suc n) h = rw (lt-ltb k S (omega arith)) (go (suc k) n (omega arith))
+
   -- the lists of the census
-  listed-is : listed img S ≡ rising 0 (M * S)
+  listed-is : listed img M S ≡ rising 0 (M * S)
   unfolding listed
   listed-is =
-      rw (no-numbers img M S (slots img S) dead)
+      rw (no-numbers img M S (slots img M S) dead, none-grown)
       (append-nil (numbersFrom img S (freeCount img) (firstFree img)) ∙ numbers-walk S img (freeCount img) (firstFree img)
       ∙ ap (numbers S) (free-right .0) ∙ ap (λ (k : ℕ). numbers S (rising k (M * S))) (let e : S ≡ S + 0 = omega arith in e) ∙ numbers-rising S 0 (M * S))
 
-  owners-are : owners img S ≡ zeros (M * S)
+  owners-are : owners img M S ≡ zeros (M * S)
   unfolding owners zeros
   owners-are =
-      rw (no-owners img M S 1 (slots img S) dead)
+      rw (no-owners img M S 1 (slots img M S) dead, none-grown)
       (append-nil (replicate (freeCount img) 0) ∙ ap (λ (n : ℕ). replicate {A = ℕ} n 0) (chain .size ∙ length-rising S (M * S)))
 
   sane : Sane img M S
   unfolding freeRight
   sane = record {
     right = directory-right .0;
-    no-twins = no-twins img M S (slots img S) dead;
+    no-twins = no-twins img M S (slots img M S) dead;
     free = free-right .1;
-    files = no-files img M S (slots img S) dead;
-    once = each-complete (M * S) (listed img S) (λ x h. ap (tally x) listed-is ∙ rising-once 0 (M * S) .inside x (omega arith) (omega arith));
+    files = no-files img M S (slots img M S) dead;
+    once = each-complete (M * S) (listed img M S) (λ x h. ap (tally x) listed-is ∙ rising-once 0 (M * S) .inside x (omega arith) (omega arith));
   }
 
   -- THE CENSUS OF A BLANK DISKETTE
@@ -247,4 +255,4 @@ module _ (M S : ℕ) (z : Shape M S) (label : List ℕ) (volume month day year :
       census-accepts img xs ys
       (record { shape = rw (l, p) z; long = rw (l, p) (blank-sized .size ∙ omega arith) })
       (rw (l, p) sane) (rw (l, p) h) (rw (l, p) k)
-      ∙ rw p (ap₂ (survey 0) listed-is owners-are)
+      ∙ rw (l, p) (ap₂ (survey 0) listed-is owners-are)

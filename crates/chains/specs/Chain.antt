@@ -1,23 +1,21 @@
 -- Chains: sectors that are linked one to the next, and the bytes that they hold.
-use mathlib.Core.Path.{_≡_, refl, ap, ap₂, _∙_, subst}
+use mathlib.Core.Path.{_≡_, refl, sym, ap, ap₂, _∙_, subst}
 use mathlib.Core.Logic.{_≢_}
 use mathlib.Core.List.{List, [], _∷_, _++_}
 use Prim.Native.Nat.{ℕ, zero, suc, _+_, _*_, _≤_, _<_}
 use native.Mathlib.Omega.{arith}
+use native.Mathlib.Decide.{ℕ-discrete}
 use lib.ListN.{length, getD}
 use Rattle.rules.specs.Bytes.{wordAt, part}
+use Rattle.rules.specs.Directory.{lastOf}
 use Rattle.laws.specs.Bytes.{word-same, part-same}
-use Rattle.chains.specs.Tally.{tally, tally-head, eq1-same, eq1-pos}
+use Rattle.chains.specs.Tally.{tally, tally-head, eq1-same, eq1-ne, eq1-pos}
 use Rattle.chains.specs.Addresses.{adr}
 
--- the first and the last of a list, x if it is empty
+-- the first of a list, x if it is empty
 abbrev pub first : List ℕ → ℕ → ℕ
 first [] x = x
 first (k ∷ ks) x = k
-
-abbrev pub lastOf : List ℕ → ℕ → ℕ
-lastOf [] x = x
-lastOf (k ∷ ks) x = lastOf ks k
 
 -- the sectors are linked, one to the next, and the last to x
 abbrev pub Seg : ℕ → List ℕ → List ℕ → ℕ → Type 0
@@ -46,10 +44,26 @@ tally-getD [] j h = absurd (omega arith)
 tally-getD (k ∷ l) zero h = tally-head k l
 tally-getD (k ∷ l) (suc j) h = omega (arith, tally-getD l j (omega arith))
 
+-- and what stands there stands somewhere
+pub seat : (l : List ℕ) (k : ℕ) → 1 ≤ tally k l → (j : ℕ) × (j < length l) × (getD l j 0 ≡ k)
+seat [] k h = absurd (omega arith)
+seat (x ∷ l) k h = go (ℕ-discrete k x) (seat l k)
+  where
+    go : Dec (k ≡ x) → (1 ≤ tally k l → (j : ℕ) × (j < length l) × (getD l j 0 ≡ k)) → (j : ℕ) × (j < length (x ∷ l)) × (getD (x ∷ l) j 0 ≡ k)
+    go (yes e) ih = (0, omega arith, sym e)
+    go (no e) ih = let q = ih (omega (arith, h, eq1-ne k x e)) in (suc (q .0), omega (arith, q .1), q .2)
+
 pub tally-last : (l : List ℕ) (x : ℕ) → 1 ≤ length l → 1 ≤ tally (lastOf l x) l
 tally-last [] x h = absurd (omega arith)
 tally-last (k ∷ []) x h = tally-head k []
 tally-last (k ∷ j ∷ l) x h = omega (arith, tally-last (j ∷ l) k (omega arith))
+
+pub last-getD : (l : List ℕ) (x j : ℕ) → suc j ≡ length l → lastOf l x ≡ getD l j 0
+last-getD [] x j h = absurd (omega arith)
+last-getD (k ∷ []) x zero h = refl
+last-getD (k ∷ []) x (suc j) h = absurd (omega arith)
+last-getD (k ∷ i ∷ l) x zero h = absurd (omega arith)
+last-getD (k ∷ i ∷ l) x (suc j) h = last-getD (i ∷ l) k j (omega arith)
 
 pub first-in : (l : List ℕ) (x : ℕ) → 1 ≤ length l → 1 ≤ tally (first l x) l
 first-in [] x h = absurd (omega arith)

@@ -1,8 +1,8 @@
--- The directory as a chain of sectors of track 0; its slots, and the places that name them.
+-- The directory as a chain of sectors; its slots, and the places that name them.
 use mathlib.Core.Path.{_≡_, refl, sym, ap, _∙_, subst}
 use mathlib.Core.Logic.{_≢_}
 use mathlib.Core.Bool.{Bool, true, false}
-use mathlib.Core.List.{List, [], _∷_, _++_}
+use mathlib.Core.List.{List, [], _∷_, _++_, append-nil, append-assoc}
 use Prim.Native.Nat.{ℕ, zero, suc, _+_, _-_, _*_, _/_, _%_, _≤_, _<_}
 use native.Mathlib.Omega.{arith}
 use native.Mathlib.Decide.{ℕ-discrete, decLt}
@@ -10,18 +10,19 @@ use lib.ListN.{length, getD, List·getD-append}
 use lib.Seq.{getD-append-add}
 use lib.Dec.{eqb, ltb}
 use borrow.Author.Tests.{lt-ltb, le-ltb, eq-eqb, ne-eqb, eqb-true}
-use Rattle.rules.specs.Bytes.{pick, within, byteAt, wordAt, part, same}
+use Rattle.rules.specs.Bytes.{pick, wordAt, same}
 use Rattle.rules.specs.Image.{index, linkOf}
-use Rattle.rules.specs.Directory.{isDirectory, stepTo, nextOf, onNext, ends, directoryRight, sectorsFrom, directory, slotsAt, slotsOf, firstSlotOf, member, isDisplacement, placed, placeOf, slotBehind}
+use Rattle.rules.specs.Directory.{isDirectory, stepTo, onNext, mostOfDirectory, slotsAt, slotsOf, firstSlotOf, member, placeOf, slotBehind, ends, directoryRight, sectorsFrom, directory, placed}
 use Rattle.rules.specs.declared.Next.the-variants.{End, To, Astray}
-use Rattle.rules.specs.declared.Lookup.the-variants.{At, Missing, Broken}
-use Rattle.laws.specs.Bytes.{same-refl, same-eq, part-at}
-use Rattle.chains.specs.Tally.{tally, tally-head, eq1, eq1-same, eq1-ne}
-use Rattle.laws.specs.Tests.{within-true}
-use Rattle.laws.specs.Addresses.{Shape}
-use Rattle.laws.specs.Slots.{length-slotsAt, length-slots, IsSlot, slot-made, slots-member, placed-slot, place-inj}
-use Rattle.chains.specs.Addresses.{absurd-bool, adr, adr-zero, adr-pos, index-adr, directory-adr, directory-index}
-use Rattle.chains.specs.Chain.{first, Seg, seg-at, tally-getD, in-one}
+use Rattle.rules.specs.declared.Lookup.the-variants.{At, Missing}
+use Rattle.laws.specs.Bytes.{same-refl, same-eq}
+use Rattle.laws.specs.Addresses.{Shape, sectors-many}
+use Rattle.laws.specs.Slots.{Addressed, row-true, length-slotsAt, length-slots, slots-member, placed-slot, place-inj}
+use Rattle.chains.specs.Tally.{tally, tally-head, tally-append, eq1, eq1-same, eq1-ne}
+use Rattle.chains.specs.Once.{few-once}
+use Rattle.chains.specs.Snoc.{length-snoc}
+use Rattle.chains.specs.Addresses.{absurd-bool, adr, adr-zero, adr-pos, index-adr, directory-adr, directory-index, addressed}
+use Rattle.chains.specs.Chain.{first, Seg, tally-getD, in-one}
 
 -- ---- one place, one chain: what is linked from a sector on to the end is told by the sector
 
@@ -95,28 +96,59 @@ getD-apart (k ∷ l) (suc c) (suc d) g ne a b e =
 
 -- ---- the directory's sectors
 
--- from the fifth sector on, all on track 0 behind it, none twice, no more than there are
-pub record Listing (S : ℕ) (ds : List ℕ) : Type 0 where
+-- from the fifth sector on, all in the image behind the first four, none twice
+pub record Listing (M S : ℕ) (ds : List ℕ) : Type 0 where
   pub head : first ds 0 ≡ 4
   pub some : 1 ≤ length ds
-  pub few : length ds ≤ S - 4
   pub low : (k : ℕ) → 1 ≤ tally k ds → 4 ≤ k
-  pub high : (k : ℕ) → 1 ≤ tally k ds → k < S
+  pub high : (k : ℕ) → 1 ≤ tally k ds → k < (M + 1) * S
   pub once : (x : ℕ) → tally x ds ≤ 1
 
+-- so it is no longer than a directory may be
+pub listing-few : (M S : ℕ) → Shape M S → (ds : List ℕ) → Listing M S ds → length ds ≤ mostOfDirectory M S
+listing-few M S z ds d =
+    let e : (M + 1) * S ≡ 4 + (S - 4 + M * S) = omega (arith, z .sectors) in
+    few-once 4 (S - 4 + M * S) ds (λ x t. (d .low x t, omega (arith, d .high x t, e))) (d .once)
+
+-- one more sector, which it has not got yet
+pub listing-more : (M S : ℕ) (ds : List ℕ) → Listing M S ds → (k : ℕ) → 4 ≤ k → k < (M + 1) * S → tally k ds ≡ 0 → Listing M S (ds ++ k ∷ [])
+listing-more M S ds d k lo hi new =
+    record {
+      head = head ds (d .some) (d .head);
+      some = omega (arith, length-snoc ds k);
+      low = λ x t. either x t (ℕ-discrete x k) (d .low x) (λ e. omega arith);
+      high = λ x t. either x t (ℕ-discrete x k) (d .high x) (λ e. omega arith);
+      once = λ x. once x (ℕ-discrete x k);
+    }
+  where
+    head : (l : List ℕ) → 1 ≤ length l → first l 0 ≡ 4 → first (l ++ k ∷ []) 0 ≡ 4
+    head [] h e = absurd (omega arith)
+    head (j ∷ l) h e = e
+
+    either : (x : ℕ) {P : Type 0} → 1 ≤ tally x (ds ++ k ∷ []) → Dec (x ≡ k) → (1 ≤ tally x ds → P) → (x ≡ k → P) → P
+    either x t (yes e) f g = g e
+    either x t (no e) f g = f (omega (arith, t, tally-append x ds (k ∷ []), eq1-ne x k e))
+
+    once : (x : ℕ) → Dec (x ≡ k) → tally x (ds ++ k ∷ []) ≤ 1
+    once x (yes e) = omega (arith, tally-append x ds (k ∷ []), ap (λ (y : ℕ). tally y ds) e ∙ new, ap (λ (y : ℕ). eq1 y k) e ∙ eq1-same k)
+    once x (no e) = omega (arith, tally-append x ds (k ∷ []), eq1-ne x k e, d .once x)
+
 module _ (M S : ℕ) (z : Shape M S) (img : List ℕ) where
-  step-to : (j : ℕ) → 4 ≤ j → j < S → stepTo S (adr S j) ≡ To j
+  step-to : (j : ℕ) → 4 ≤ j → j < (M + 1) * S → stepTo M S (adr S j) ≡ To j
   unfolding stepTo
   step-to j a b =
-      let d = directory-adr M S z j (omega arith) (omega arith) a b in
-      rw (ne-eqb (adr S j) 0 (omega (arith, d .0)), d .1, index-adr M S z j (omega arith) (omega arith)) refl
+      rw (
+        ne-eqb (adr S j) 0 (omega (arith, adr-pos M S z j (omega arith) b)),
+        directory-adr M S z j (omega arith) b a,
+        index-adr M S z j (omega arith) b,
+      ) refl
 
-  step-end : stepTo S (adr S 0) ≡ End
+  step-end : stepTo M S (adr S 0) ≡ End
   unfolding stepTo
   step-end = rw adr-zero refl
 
-  walk-directory : (n k : ℕ) (l : List ℕ) → ((x : ℕ) → 1 ≤ tally x l → (4 ≤ x) × (x < S)) → Seg S img (k ∷ l) 0 → length l < n
-      → (ends img S n k ≡ true) × (sectorsFrom img S n k ≡ k ∷ l)
+  walk-directory : (n k : ℕ) (l : List ℕ) → ((x : ℕ) → 1 ≤ tally x l → (4 ≤ x) × (x < (M + 1) * S)) → Seg S img (k ∷ l) 0 → length l < n
+      → (ends img M S n k ≡ true) × (sectorsFrom img M S n k ≡ k ∷ l)
   unfolding ends sectorsFrom
   walk-directory zero k l g s h = absurd (omega arith)
   walk-directory (suc n) k [] g s h = rw (s .0, step-end) (refl, refl)
@@ -126,71 +158,66 @@ module _ (M S : ℕ) (z : Shape M S) (img : List ℕ) where
       rw (s .0, step-to j (q .0) (q .1)) (r .0, ap (λ (y : List ℕ). k ∷ y) (r .1))
 
   -- the chain from the fifth sector on is the directory, and it is right
-  pub directory-is : (ds : List ℕ) → Listing S ds → Seg S img ds 0 → (directoryRight img S ≡ true) × (directory img S ≡ ds)
+  pub directory-is : (ds : List ℕ) → Listing M S ds → Seg S img ds 0 → (directoryRight img M S ≡ true) × (directory img M S ≡ ds)
   unfolding directoryRight directory
   directory-is [] d s = absurd (omega (arith, d .some))
   directory-is (k ∷ ds) d s =
-      let r = walk-directory (S - 4) k ds (λ x t. (d .low x (omega arith), d .high x (omega arith))) s (omega (arith, d .few)) in
-      subst (λ (x : ℕ). (ends img S (S - 4) x ≡ true) × (sectorsFrom img S (S - 4) x ≡ k ∷ ds)) (d .head) r
+      let n = mostOfDirectory M S in
+      let r = walk-directory n k ds (λ x t. (d .low x (omega arith), d .high x (omega arith))) s (omega (arith, listing-few M S z (k ∷ ds) d)) in
+      subst (λ (x : ℕ). (ends img M S n x ≡ true) × (sectorsFrom img M S n x ≡ k ∷ ds)) (d .head) r
 
   module _ (small : (i : ℕ) → getD img i 0 < 256) where
     word-small : (p : ℕ) → wordAt img p < 65536
     unfolding wordAt
     word-small p = omega (arith, small p, small (p + 1))
 
-    record Walked (n k : ℕ) (l : List ℕ) : Type 0 where
+    record Walked (k : ℕ) (l : List ℕ) : Type 0 where
       pub seg : Seg S img l 0
       pub head : first l 0 ≡ k
       pub some : 1 ≤ length l
-      pub few : length l ≤ n
-      pub within : (x : ℕ) → 1 ≤ tally x l → (4 ≤ x) × (x < S)
+      pub within : (x : ℕ) → 1 ≤ tally x l → (4 ≤ x) × (x < (M + 1) * S)
 
-    adr-directory : (k : ℕ) → 4 ≤ k → k < S → adr S k ≡ k + 1
-    adr-directory k a b = directory-adr M S z k (omega arith) (omega arith) a b .0
-
-    walked : (n k : ℕ) → 4 ≤ k → k < S → ends img S n k ≡ true → Walked n k (sectorsFrom img S n k)
+    walked : (n k : ℕ) → 4 ≤ k → k < (M + 1) * S → ends img M S n k ≡ true → Walked k (sectorsFrom img M S n k)
     unfolding ends sectorsFrom stepTo
     walked zero k a b h = absurd-bool h refl
     walked (suc n) k a b h =
-        go (eqb (linkOf img k) 0) refl (isDirectory S (linkOf img k)) refl h (λ j c d e. walked n j c d e)
+        go (eqb (linkOf img k) 0) refl (isDirectory M S (linkOf img k)) refl h (λ j c d e. walked n j c d e)
       where
-        one : (x : ℕ) → 1 ≤ tally x (k ∷ []) → (4 ≤ x) × (x < S)
+        one : (x : ℕ) → 1 ≤ tally x (k ∷ []) → (4 ≤ x) × (x < (M + 1) * S)
         one x t = let e : x ≡ k = in-one x k t in omega arith
 
-        more : (l : List ℕ) → ((x : ℕ) → 1 ≤ tally x l → (4 ≤ x) × (x < S)) → (x : ℕ) → 1 ≤ tally x (k ∷ l) → Dec (x ≡ k) → (4 ≤ x) × (x < S)
+        more : (l : List ℕ) → ((x : ℕ) → 1 ≤ tally x l → (4 ≤ x) × (x < (M + 1) * S)) → (x : ℕ) → 1 ≤ tally x (k ∷ l) → Dec (x ≡ k) → (4 ≤ x) × (x < (M + 1) * S)
         more l g x t (yes e) = omega arith
         more l g x t (no e) = g x (omega (arith, eq1-ne x k e))
 
-        go : (u : Bool) → eqb (linkOf img k) 0 ≡ u → (v : Bool) → isDirectory S (linkOf img k) ≡ v
-            → onNext (pick u End (pick v (To (index S (linkOf img k))) Astray)) true false (λ j. ends img S n j) ≡ true
-            → ((j : ℕ) → 4 ≤ j → j < S → ends img S n j ≡ true → Walked n j (sectorsFrom img S n j))
-            → Walked (suc n) k (k ∷ onNext (pick u End (pick v (To (index S (linkOf img k))) Astray)) [] [] (λ j. sectorsFrom img S n j))
+        go : (u : Bool) → eqb (linkOf img k) 0 ≡ u → (v : Bool) → isDirectory M S (linkOf img k) ≡ v
+            → onNext (pick u End (pick v (To (index S (linkOf img k))) Astray)) true false (λ j. ends img M S n j) ≡ true
+            → ((j : ℕ) → 4 ≤ j → j < (M + 1) * S → ends img M S n j ≡ true → Walked j (sectorsFrom img M S n j))
+            → Walked k (k ∷ onNext (pick u End (pick v (To (index S (linkOf img k))) Astray)) [] [] (λ j. sectorsFrom img M S n j))
         go true e v f h ih =
-            record { seg = (eqb-true (linkOf img k) 0 e ∙ sym (adr-zero S), tt); head = refl; some = omega arith; few = omega arith; within = one }
+            record { seg = (eqb-true (linkOf img k) 0 e ∙ sym (adr-zero S), tt); head = refl; some = omega arith; within = one }
         go false e false f h ih = absurd-bool h refl
         go false e true f h ih =
-            let d = directory-index S (linkOf img k) (word-small (256 * k)) f in
+            let d = directory-index M S z (linkOf img k) (word-small (256 * k)) f in
             let w = ih (index S (linkOf img k)) (d .1) (d .2) h in
             record {
-              seg = (sym (d .0) ∙ sym (adr-directory (index S (linkOf img k)) (d .1) (d .2)) ∙ ap (adr S) (sym (w .head)), w .seg);
+              seg = (sym (d .0) ∙ ap (adr S) (sym (w .head)), w .seg);
               head = refl;
               some = omega arith;
-              few = omega (arith, w .few);
-              within = λ x t. more (sectorsFrom img S n (index S (linkOf img k))) (w .within) x t (ℕ-discrete x k);
+              within = λ x t. more (sectorsFrom img M S n (index S (linkOf img k))) (w .within) x t (ℕ-discrete x k);
             }
 
     -- a directory that is right is such a chain
-    pub directory-sound : directoryRight img S ≡ true → Listing S (directory img S) × Seg S img (directory img S) 0
+    pub directory-sound : directoryRight img M S ≡ true → Listing M S (directory img M S) × Seg S img (directory img M S) 0
     unfolding directoryRight directory
     directory-sound h =
-        let w = walked (S - 4) 4 (omega arith) (omega (arith, z .sectors)) h in (
+        let w = walked (mostOfDirectory M S) 4 (omega arith) (omega (arith, sectors-many M S z)) h in (
           record {
             head = w .head;
             some = w .some;
-            few = w .few;
             low = λ k t. w .within k t .0;
             high = λ k t. w .within k t .1;
-            once = seg-once M S z img (sectorsFrom img S (S - 4) 4) (λ x t. let q = w .within x t in (omega arith, omega arith)) (w .seg);
+            once = seg-once M S z img (sectorsFrom img M S (mostOfDirectory M S) 4) (λ x t. let q = w .within x t in (omega arith, omega arith)) (w .seg);
           },
           w .seg,
         )
@@ -214,8 +241,19 @@ slot-at (k ∷ ds) (suc c) i h b =
     ap (λ (x : ℕ). getD (slotsAt (256 * k + 16) 10 ++ slotsOf ds) x 0) (omega (arith, length-slotsAt (256 * k + 16) 10))
     ∙ getD-append-add (slotsAt (256 * k + 16) 10) (slotsOf ds) (10 * c + i) 0 ∙ slot-at ds c i (omega arith) b
 
+-- more sectors have their slots behind the others
+pub slots-append : (ds ks : List ℕ) → slotsOf (ds ++ ks) ≡ slotsOf ds ++ slotsOf ks
+unfolding slotsOf
+slots-append [] ks = refl
+slots-append (j ∷ ds) ks =
+    ap (λ (l : List ℕ). slotsAt (firstSlotOf j) 10 ++ l) (slots-append ds ks) ∙ sym (append-assoc (slotsAt (firstSlotOf j) 10) (slotsOf ds) (slotsOf ks))
+
+pub slots-snoc : (ds : List ℕ) (k : ℕ) → slotsOf (ds ++ k ∷ []) ≡ slotsOf ds ++ slotsAt (firstSlotOf k) 10
+unfolding slotsOf
+slots-snoc ds k = slots-append ds (k ∷ []) ∙ ap (λ (l : List ℕ). slotsOf ds ++ l) (append-nil (slotsAt (firstSlotOf k) 10))
+
 -- where a slot stands: in the sector k of the directory, row i
-pub record Spot (S : ℕ) (ds : List ℕ) (s o : ℕ) : Type 0 where
+pub record Spot (M S : ℕ) (ds : List ℕ) (s o : ℕ) : Type 0 where
   pub c : ℕ
   pub i : ℕ
   pub k : ℕ
@@ -223,18 +261,19 @@ pub record Spot (S : ℕ) (ds : List ℕ) (s o : ℕ) : Type 0 where
   pub row : i < 10
   pub nth : c < length ds
   pub sector : getD ds c 0 ≡ k
+  pub inside : 1 ≤ tally k ds
   pub place : o ≡ 256 * k + (16 + 24 * i)
   pub low : 4 ≤ k
-  pub high : k < S
+  pub high : k < (M + 1) * S
 
 pub sector-of : (o k r : ℕ) → o ≡ 256 * k + r → r < 256 → (o / 256 ≡ k) × (o % 256 ≡ r)
 sector-of o k r e h = (omega arith, omega arith)
 
-pub spot-sector : (S : ℕ) (ds : List ℕ) (s o : ℕ) (w : Spot S ds s o) → (o / 256 ≡ w .k) × (o % 256 ≡ 16 + 24 * w .i)
-spot-sector S ds s o w = sector-of o (w .k) (16 + 24 * w .i) (w .place) (omega (arith, w .row))
+pub spot-sector : (M S : ℕ) (ds : List ℕ) (s o : ℕ) (w : Spot M S ds s o) → (o / 256 ≡ w .k) × (o % 256 ≡ 16 + 24 * w .i)
+spot-sector M S ds s o w = sector-of o (w .k) (16 + 24 * w .i) (w .place) (omega (arith, w .row))
 
-module _ (S : ℕ) (ds : List ℕ) (d : Listing S ds) where
-  pub spot : (s : ℕ) → s < length (slotsOf ds) → Spot S ds s (getD (slotsOf ds) s 0)
+module _ (M S : ℕ) (ds : List ℕ) (d : Listing M S ds) where
+  pub spot : (s : ℕ) → s < length (slotsOf ds) → Spot M S ds s (getD (slotsOf ds) s 0)
   spot s h =
       let e : s ≡ 10 * (s / 10) + s % 10 = omega arith in
       let n : s / 10 < length ds = omega (arith, length-slots ds) in
@@ -247,12 +286,13 @@ module _ (S : ℕ) (ds : List ℕ) (d : Listing S ds) where
         row = omega arith;
         nth = n;
         sector = refl;
+        inside = t;
         place = ap (λ (x : ℕ). getD (slotsOf ds) x 0) e ∙ slot-at ds (s / 10) (s % 10) n (omega arith);
         low = d .low (getD ds (s / 10) 0) t;
         high = d .high (getD ds (s / 10) 0) t;
       }
 
-  spots-apart : (s s′ o o′ : ℕ) → Spot S ds s o → Spot S ds s′ o′ → s ≢ s′ → (j : ℕ) → j < 24 → o ≤ o′ + j → o′ + j < o + 24 → ⊥
+  spots-apart : (s s′ o o′ : ℕ) → Spot M S ds s o → Spot M S ds s′ o′ → s ≢ s′ → (j : ℕ) → j < 24 → o ≤ o′ + j → o′ + j < o + 24 → ⊥
   spots-apart s s′ o o′ p p′ ne j h a b = go (ℕ-discrete (p .c) (p′ .c))
     where
       go : Dec (p .c ≡ p′ .c) → ⊥
@@ -270,10 +310,6 @@ module _ (S : ℕ) (ds : List ℕ) (d : Listing S ds) where
 
 -- ---- places
 
-row-true : (i : ℕ) → i < 10 → isDisplacement (16 + 24 * i) ≡ true
-unfolding isDisplacement
-row-true i h = rw (within-true 16 232 (16 + 24 * i) (omega arith) (omega arith)) (eq-eqb ((16 + 24 * i - 16) % 24) 0 (omega arith))
-
 member-in : (k : ℕ) (l : List ℕ) → 1 ≤ tally k l → member k l ≡ true
 unfolding member
 member-in k [] h = absurd (omega arith)
@@ -283,92 +319,60 @@ member-in k (j ∷ l) h = go (ℕ-discrete j k) (member-in k l)
     go (yes e) ih = rw (eq-eqb j k e) refl
     go (no e) ih = rw (ne-eqb j k e) (ih (omega (arith, eq1-ne k j (λ q. e (sym q)))))
 
--- a slot that stands there is one, as `laws` says it
-spot-slot : (S : ℕ) (ds : List ℕ) (s o : ℕ) → Spot S ds s o → IsSlot S o
-spot-slot S ds s o w = rw (w .place) (slot-made S (w .k) (16 + 24 * w .i) (w .low, w .high) (row-true (w .i) (w .row)))
+module _ (M S : ℕ) (z : Shape M S) (ds : List ℕ) (d : Listing M S ds) where
+  few : S < 256
+  few = omega (arith, z .most-sectors)
 
--- the place of a slot, as a block has it, names that slot
-pub placed-spot : (M S : ℕ) → Shape M S → (img : List ℕ) (ds : List ℕ) → Listing S ds → Seg S img ds 0 → (s o : ℕ) → Spot S ds s o
-    → (tab : List ℕ) (p : ℕ) → part tab p 3 ≡ placeOf o → placed img S (wordAt tab p) (byteAt tab (p + 2)) ≡ At o
-unfolding placeOf wordAt
-placed-spot M S z img ds d g s o w tab p e =
-    let r = directory-is M S z img ds d g in
-    let u = spot-slot S ds s o w in
-    let me : member (w .k) ds ≡ true = member-in (w .k) ds (subst (λ (x : ℕ). 1 ≤ tally x ds) (w .sector) (tally-getD ds (w .c) (w .nth))) in
-    let in-ds : member o (slotsOf ds) ≡ true = rw (w .place) (slots-member ds (w .k) (16 + 24 * w .i) me (row-true (w .i) (w .row))) in
-    let b : (i : ℕ) → i < 3 → getD tab (p + i) 0 ≡ getD (0 ∷ (o / 256 + 1) % 256 ∷ o % 256 ∷ []) i 0 =
-    λ i h. sym (part-at tab p 3 i h) ∙ ap (λ (l : List ℕ). getD l i 0) e in
-    let b0 : getD tab p 0 ≡ 0 = ap (λ (x : ℕ). getD tab x 0) (omega arith) ∙ b 0 (omega arith) in
-    let a : wordAt tab p ≡ o / 256 + 1 = omega (arith, b0, b 1 (omega arith), u .sector-high, z .most-sectors) in
-    rw (a, b 2 (omega arith))
-    (placed-slot img S o (omega (arith, z .most-sectors)) (record { right = r .0; one-of = rw (r .1) in-ds; slot = u }))
+  spot-addressed : (s o : ℕ) → Spot M S ds s o → Addressed S (o / 256)
+  spot-addressed s o w = addressed M S z (o / 256) (omega (arith, spot-sector M S ds s o w .0, w .high))
 
--- two slots have two places
-places-differ : (S o o′ : ℕ) → S < 256 → IsSlot S o → IsSlot S o′ → o ≢ o′ → same (placeOf o) (placeOf o′) ≡ false
-places-differ S o o′ few u u′ ne = go (same (placeOf o) (placeOf o′)) refl
-  where
-    go : (b : Bool) → same (placeOf o) (placeOf o′) ≡ b → b ≡ false
-    go false q = refl
-    go true q = absurd (ne (place-inj S o o′ few u u′ (same-eq (placeOf o) (placeOf o′) q)))
+  -- the place of a slot names that slot
+  pub placed-spot : (img : List ℕ) → Seg S img ds 0 → (s o : ℕ) → Spot M S ds s o → placed img M S (placeOf S o) ≡ At o
+  placed-spot img g s o w =
+      let r = directory-is M S z img ds d g in
+      let me = slots-member ds (w .k) (16 + 24 * w .i) (member-in (w .k) ds (w .inside)) (row-true (w .i) (w .row)) in
+      placed-slot img M S few o (record { right = r .0; one-of = rw (r .1, w .place) me })
 
-pub places-same : (M S : ℕ) → Shape M S → (ds : List ℕ) → Listing S ds → (s s′ : ℕ) → s < length (slotsOf ds) → s′ < length (slotsOf ds)
-    → same (placeOf (getD (slotsOf ds) s 0)) (placeOf (getD (slotsOf ds) s′ 0)) ≡ eqb s s′
-places-same M S z ds d s s′ h h′ = go (ℕ-discrete s s′)
-  where
-    go : Dec (s ≡ s′) → same (placeOf (getD (slotsOf ds) s 0)) (placeOf (getD (slotsOf ds) s′ 0)) ≡ eqb s s′
-    go (yes e) = rw (eq-eqb s s′ e, ← e) (same-refl (placeOf (getD (slotsOf ds) s 0)))
-    go (no e) =
-        rw (ne-eqb s s′ e)
-        (places-differ S _ _ (omega (arith, z .most-sectors)) (spot-slot S ds s _ (spot S ds d s h)) (spot-slot S ds s′ _ (spot S ds d s′ h′))
-        (λ q. slots-apart S ds d s s′ h h′ e 0 (omega arith) (omega (arith, q)) (omega (arith, q))))
+  -- two slots have two places
+  pub places-same : (s s′ : ℕ) → s < length (slotsOf ds) → s′ < length (slotsOf ds)
+      → same (placeOf S (getD (slotsOf ds) s 0)) (placeOf S (getD (slotsOf ds) s′ 0)) ≡ eqb s s′
+  places-same s s′ h h′ = go (ℕ-discrete s s′)
+    where
+      o : ℕ
+      o = getD (slotsOf ds) s 0
 
--- the slot behind a slot
-pub behind : (M S : ℕ) → Shape M S → (img : List ℕ) (ds : List ℕ) → Listing S ds → Seg S img ds 0 → (s : ℕ) → s < length (slotsOf ds)
-    → slotBehind img S (getD (slotsOf ds) s 0) ≡ pick (ltb (s + 1) (length (slotsOf ds))) (At (getD (slotsOf ds) (s + 1) 0)) Missing
-unfolding slotBehind
-behind M S z img ds d g s h = go (decLt (w .i) 9) (decLt (w .c + 1) (length ds))
-  where
-    w : Spot S ds s (getD (slotsOf ds) s 0)
-    w = spot S ds d s h
+      o′ : ℕ
+      o′ = getD (slotsOf ds) s′ 0
 
-    v : (getD (slotsOf ds) s 0 / 256 ≡ w .k) × (getD (slotsOf ds) s 0 % 256 ≡ 16 + 24 * w .i)
-    v = spot-sector S ds s (getD (slotsOf ds) s 0) w
+      differ : s ≢ s′ → (b : Bool) → same (placeOf S o) (placeOf S o′) ≡ b → b ≡ false
+      differ e false q = refl
+      differ e true q =
+          let t = place-inj S o o′ few (spot-addressed s o (spot M S ds d s h)) (spot-addressed s′ o′ (spot M S ds d s′ h′)) (same-eq (placeOf S o) (placeOf S o′) q) in
+          absurd (slots-apart M S ds d s s′ h h′ e 0 (omega arith) (omega (arith, t)) (omega (arith, t)))
 
-    all : length (slotsOf ds) ≡ 10 * length ds
-    all = length-slots ds
+      go : Dec (s ≡ s′) → same (placeOf S o) (placeOf S o′) ≡ eqb s s′
+      go (yes e) = rw (eq-eqb s s′ e, ← e) (same-refl (placeOf S o))
+      go (no e) = rw (ne-eqb s s′ e) (differ e (same (placeOf S o) (placeOf S o′)) refl)
 
-    next : (c i : ℕ) → s + 1 ≡ 10 * c + i → c < length ds → i < 10 → getD (slotsOf ds) (s + 1) 0 ≡ 256 * getD ds c 0 + (16 + 24 * i)
-    next c i e a b = ap (λ (x : ℕ). getD (slotsOf ds) x 0) e ∙ slot-at ds c i a b
+  -- the slot behind a slot
+  behind-at : (os : List ℕ) → ((s s′ : ℕ) → s < length os → s′ < length os → s ≢ s′ → getD os s 0 ≢ getD os s′ 0) → (s : ℕ) → s < length os
+      → slotBehind (getD os s 0) os ≡ pick (ltb (s + 1) (length os)) (At (getD os (s + 1) 0)) Missing
+  unfolding slotBehind
+  behind-at [] g s h = absurd (omega arith)
+  behind-at (o ∷ []) g zero h = rw (eq-eqb o o refl) refl
+  behind-at (o ∷ p ∷ os) g zero h = rw (eq-eqb o o refl, lt-ltb 1 (suc (suc (length os))) (omega arith)) refl
+  behind-at (o ∷ os) g (suc s) h =
+      rw (ne-eqb o (getD os s 0) (g 0 (suc s) (omega arith) h (omega arith)))
+      (behind-at os (λ x y a b e. g (suc x) (suc y) (omega arith) (omega arith) (omega (arith, e))) s (omega arith) ∙ next (decLt (s + 1) (length os)))
+    where
+      next : Dec (s + 1 < length os)
+          → pick (ltb (s + 1) (length os)) (At (getD os (s + 1) 0)) Missing ≡ pick (ltb (suc s + 1) (suc (length os))) (At (getD (o ∷ os) (suc s + 1) 0)) Missing
+      next (yes l) =
+          let e : suc s + 1 ≡ suc (s + 1) = omega arith in
+          rw (lt-ltb (s + 1) (length os) l, lt-ltb (suc s + 1) (suc (length os)) (omega arith), e) refl
+      next (no l) = rw (le-ltb (s + 1) (length os) (omega arith), le-ltb (suc s + 1) (suc (length os)) (omega arith)) refl
 
-    link : wordAt img (256 * (getD (slotsOf ds) s 0 / 256)) ≡ adr S (getD ds (suc (w .c)) 0)
-    link =
-        let e : getD (slotsOf ds) s 0 / 256 ≡ getD ds (w .c) 0 = v .0 ∙ sym (w .sector) in
-        ap (λ (x : ℕ). wordAt img (256 * x)) e ∙ seg-at S img ds (w .c) (w .nth) g
-
-    go : Dec (w .i < 9) → Dec (w .c + 1 < length ds)
-        → pick (ltb (getD (slotsOf ds) s 0 % 256) 232) (At (getD (slotsOf ds) s 0 + 24)) (onNext (nextOf img S (getD (slotsOf ds) s 0 / 256)) Missing Broken (λ k. At (firstSlotOf k)))
-        ≡ pick (ltb (s + 1) (length (slotsOf ds))) (At (getD (slotsOf ds) (s + 1) 0)) Missing
-    go (yes a) b =
-        let e : getD (slotsOf ds) s 0 + 24 ≡ getD (slotsOf ds) (s + 1) 0 =
-        omega (arith, w .place, w .sector, next (w .c) (w .i + 1) (omega (arith, w .number)) (w .nth) (omega arith)) in
-        rw (lt-ltb (getD (slotsOf ds) s 0 % 256) 232 (omega (arith, v .1, a)), lt-ltb (s + 1) (length (slotsOf ds)) (omega (arith, all, w .number, w .nth, a)), e) refl
-    go (no a) (yes b) =
-        let r = w .row in
-        let k : getD ds (suc (w .c)) 0 ≡ getD ds (w .c + 1) 0 = ap (λ (x : ℕ). getD ds x 0) (omega arith) in
-        let t = tally-getD ds (w .c + 1) b in
-        let lo = d .low (getD ds (w .c + 1) 0) t in
-        let hi = d .high (getD ds (w .c + 1) 0) t in
-        let e : 256 * getD ds (w .c + 1) 0 + 16 ≡ getD (slotsOf ds) (s + 1) 0 =
-        omega (arith, next (w .c + 1) 0 (omega (arith, w .number)) b (omega arith)) in
-        rw (
-          le-ltb (getD (slotsOf ds) s 0 % 256) 232 (omega (arith, v .1)),
-          lt-ltb (s + 1) (length (slotsOf ds)) (omega (arith, all, w .number)),
-          link,
-          k,
-          step-to M S z img (getD ds (w .c + 1) 0) lo hi,
-          e,
-        ) refl
-    go (no a) (no b) =
-        let r = w .row in
-        let k : getD ds (suc (w .c)) 0 ≡ 0 = lib.ListN.List·getD-eq-default ds 0 (omega arith) in
-        rw (le-ltb (getD (slotsOf ds) s 0 % 256) 232 (omega (arith, v .1)), le-ltb (s + 1) (length (slotsOf ds)) (omega (arith, all, w .number, w .nth)), link, k, step-end M S z img) refl
+  pub behind : (s : ℕ) → s < length (slotsOf ds)
+      → slotBehind (getD (slotsOf ds) s 0) (slotsOf ds) ≡ pick (ltb (s + 1) (length (slotsOf ds))) (At (getD (slotsOf ds) (s + 1) 0)) Missing
+  behind =
+      behind-at (slotsOf ds) (λ s s′ h h′ ne q. slots-apart M S ds d s s′ h h′ ne 0 (omega arith) (omega (arith, q)) (omega (arith, q)))

@@ -9,7 +9,8 @@ use Rattle.rules.specs.Bytes.{wordAt, six}
 use Rattle.laws.specs.Bytes.{word-put}
 use Rattle.chains.specs.Tally.{tally}
 use Rattle.chains.specs.Addresses.{adr}
-use Rattle.chains.specs.Chain.{first, lastOf, Seg, Chain, seg-same, seg-hang}
+use Rattle.rules.specs.Directory.{lastOf}
+use Rattle.chains.specs.Chain.{first, Seg, Chain, seg-same, seg-hang}
 
 -- from p on stand the six bytes of three numbers
 abbrev pub SixAt : List ℕ → ℕ → ℕ → ℕ → ℕ → Type 0

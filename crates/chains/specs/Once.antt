@@ -74,6 +74,15 @@ sum-ones lo (suc d) l f = omega (arith, f (lo + d) (omega arith) (omega arith), 
 pub once-length : (lo d : ℕ) (l : List ℕ) → Once lo (lo + d) l → length l ≡ d
 once-length lo d l o = sym (sum-length lo d l (λ x h. (o .low x h, o .high x h))) ∙ sum-ones lo d l (o .inside)
 
+-- a list without repeats is no longer than the range that it lies in
+sum-few : (lo d : ℕ) (l : List ℕ) → ((x : ℕ) → tally x l ≤ 1) → sumT lo d l ≤ d
+unfolding sumT
+sum-few lo zero l f = omega arith
+sum-few lo (suc d) l f = omega (arith, f (lo + d), sum-few lo d l f)
+
+pub few-once : (lo d : ℕ) (l : List ℕ) → ((x : ℕ) → 1 ≤ tally x l → (lo ≤ x) × (x < lo + d)) → ((x : ℕ) → tally x l ≤ 1) → length l ≤ d
+few-once lo d l r f = omega (arith, sum-length lo d l r, sum-few lo d l f)
+
 -- ---- a range, written out
 
 -- n numbers from lo on

@@ -1,8 +1,8 @@
 -- How often a number stands in a list. It is a sum, so that `omega` reasons about what stands where.
-use mathlib.Core.Path.{_≡_, refl, ap}
+use mathlib.Core.Path.{_≡_, refl, sym, ap, _∙_}
 use mathlib.Core.Logic.{_≢_}
 use mathlib.Core.Bool.{Bool, true, false}
-use mathlib.Core.List.{List, [], _∷_, _++_}
+use mathlib.Core.List.{List, [], _∷_, _++_, append-assoc}
 use Prim.Native.Nat.{ℕ, zero, suc, _+_, _≤_, _<_}
 use native.Mathlib.Omega.{arith}
 use lib.ListN.{length, getD, set}
@@ -52,6 +52,10 @@ module _ {A : Type 0} (f : A → List ℕ) where
   abbrev pub flat : List A → List ℕ
   flat [] = []
   flat (l ∷ ls) = f l ++ flat ls
+
+  pub flat-append : (ls ms : List A) → flat (ls ++ ms) ≡ flat ls ++ flat ms
+  flat-append [] ms = refl
+  flat-append (l ∷ ls) ms = ap (λ (x : List ℕ). f l ++ x) (flat-append ls ms) ∙ sym (append-assoc (f l) (flat ls) (flat ms))
 
   -- one is changed for another
   pub tally-set : (x : ℕ) (ls : List A) (n : ℕ) (l d : A) → n < length ls

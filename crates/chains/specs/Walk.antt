@@ -1,24 +1,25 @@
 -- The census's walk along a chain, and its count of each data sector: sound and complete for chains as lists.
 use mathlib.Core.Path.{_≡_, refl, sym, ap, ap₂, _∙_, subst}
-use mathlib.Core.Bool.{true}
+use mathlib.Core.Bool.{Bool, true, false}
 use mathlib.Core.List.{List, [], _∷_, _++_}
 use Prim.Native.Nat.{ℕ, zero, suc, _+_, _-_, _*_, _≤_, _<_}
 use native.Mathlib.Omega.{arith}
 use native.Mathlib.Decide.{ℕ-discrete}
 use lib.ListN.{length}
-use lib.Dec.{eqb, leb}
-use borrow.Author.Tests.{eq-eqb, ne-eqb, eqb-true, le-leb}
+use lib.Dec.{eqb, leb, ltb}
+use borrow.Author.Tests.{eq-eqb, ne-eqb, eqb-true, le-leb, le-ltb, ltb-true, ltb-false}
 use Rattle.rules.specs.Bytes.{pick, wordAt}
 use Rattle.rules.specs.Image.{index, isData, linkOf}
-use Rattle.rules.specs.Census.{runsOut, chainRight, numbersFrom, eachOnce, tally as count}
+use Rattle.rules.specs.Census.{runsOut, chainRight, numbersFrom, directoryNumbers, eachOnce, tally as count}
 use Rattle.laws.specs.Small.{Small, small-word}
 use Rattle.chains.specs.Tally.{tally, tally-head, bit, eq1, eq1-same, eq1-ne}
 use Rattle.chains.specs.Once.{Once}
-use Rattle.laws.specs.Tests.{both}
+use Rattle.laws.specs.Tests.{both, pick-cases}
 use Rattle.laws.specs.Surveys.{chain-right}
 use Rattle.laws.specs.Addresses.{Shape}
 use Rattle.chains.specs.Addresses.{adr, adr-zero, index-adr, data-adr, data-index}
-use Rattle.chains.specs.Chain.{first, lastOf, Seg, Chain}
+use Rattle.rules.specs.Directory.{lastOf}
+use Rattle.chains.specs.Chain.{first, Seg, Chain}
 
 -- ---- the walk
 
@@ -53,6 +54,48 @@ pub numbers-walk : (S : ℕ) (m : List ℕ) (n a : ℕ) → numbersFrom m S n a 
 unfolding walk numbersFrom
 numbers-walk S m zero a = refl
 numbers-walk S m (suc n) a = ap (λ (l : List ℕ). (index S a - S) ∷ l) (numbers-walk S m n (linkOf m (index S a)))
+
+-- of some sectors those behind track 0
+abbrev pub dataOf : ℕ → List ℕ → List ℕ
+dataOf S [] = []
+dataOf S (k ∷ ks) = pick (ltb k S) (dataOf S ks) (k ∷ dataOf S ks)
+
+pub numbers-data : (S : ℕ) (ks : List ℕ) → directoryNumbers S ks ≡ numbers S (dataOf S ks)
+unfolding directoryNumbers
+numbers-data S [] = refl
+numbers-data S (k ∷ ks) = go (ltb k S) (numbers-data S ks)
+  where
+    go : (b : Bool) → directoryNumbers S ks ≡ numbers S (dataOf S ks)
+        → pick b (directoryNumbers S ks) ((k - S) ∷ directoryNumbers S ks) ≡ numbers S (pick b (dataOf S ks) (k ∷ dataOf S ks))
+    go true e = e
+    go false e = ap (λ (l : List ℕ). (k - S) ∷ l) e
+
+-- they stand there as often as in the whole list, and no other does
+pub tally-data : (S : ℕ) (ks : List ℕ) (x : ℕ) → S ≤ x → tally x (dataOf S ks) ≡ tally x ks
+tally-data S [] x h = refl
+tally-data S (k ∷ ks) x h =
+    pick-cases (λ (l : List ℕ). tally x l ≡ tally x (k ∷ ks)) (ltb k S) (dataOf S ks) (k ∷ dataOf S ks)
+    (λ e. omega (arith, tally-data S ks x h, eq1-ne x k (let b = ltb-true k S e in omega arith)))
+    (λ e. omega (arith, tally-data S ks x h))
+
+pub data-behind : (S : ℕ) (ks : List ℕ) (x : ℕ) → 1 ≤ tally x (dataOf S ks) → S ≤ x
+data-behind S [] x = λ t. absurd (omega arith)
+data-behind S (k ∷ ks) x =
+    pick-cases (λ (l : List ℕ). 1 ≤ tally x l → S ≤ x) (ltb k S) (dataOf S ks) (k ∷ dataOf S ks) (λ e t. data-behind S ks x t)
+    (λ e t. go (ℕ-discrete x k) (ltb-false k S e) t (data-behind S ks x))
+  where
+    go : Dec (x ≡ k) → S ≤ k → 1 ≤ tally x (k ∷ dataOf S ks) → (1 ≤ tally x (dataOf S ks) → S ≤ x) → S ≤ x
+    go (yes q) b t ih = omega arith
+    go (no q) b t ih = ih (omega (arith, eq1-ne x k q))
+
+pub data-snoc : (S : ℕ) (ks : List ℕ) (k : ℕ) → S ≤ k → dataOf S (ks ++ k ∷ []) ≡ dataOf S ks ++ k ∷ []
+data-snoc S [] k h = rw (le-ltb k S h) refl
+data-snoc S (j ∷ ks) k h = go (ltb j S) (data-snoc S ks k h)
+  where
+    go : (b : Bool) → dataOf S (ks ++ k ∷ []) ≡ dataOf S ks ++ k ∷ []
+        → pick b (dataOf S (ks ++ k ∷ [])) (j ∷ dataOf S (ks ++ k ∷ [])) ≡ pick b (dataOf S ks) (j ∷ dataOf S ks) ++ k ∷ []
+    go true e = e
+    go false e = ap (λ (l : List ℕ). j ∷ l) e
 
 -- all of a list are data sectors
 abbrev pub AllData : ℕ → ℕ → List ℕ → Type 0

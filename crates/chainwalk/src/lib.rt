@@ -29,14 +29,14 @@ fn walk(
     end: u16,
     count: u16,
     out: &mut [u16],
-    at: u32,
+    at: usize,
 ) -> Listing
-    ensures { λ r. ⌜ laid r (now (out .exit)) ≡ walk (now (image .entry)) last per end count 0 start (now (out .entry)) at ⌝ }
+    ensures { λ r. ⌜ laid r (now (out .exit)) ≡ walk (now (image .entry)) last per end count 0 start (now (out .entry)) at 0 ⌝ }
 {
     let mut left = count as usize;
     let mut before = 0u16;
     let mut a = start;
-    let mut i = at as usize;
+    let mut i = 0usize;
     while left > 0 {
         let data = is_data(last, per, a);
         if !data {
@@ -44,7 +44,7 @@ fn walk(
         }
         let k = index_of(per, a);
         let x = number(per, k);
-        place(out, i, x);
+        place(out, at, i, x);
         before = a;
         a = link_of(image, k);
         i += 1;
@@ -56,7 +56,7 @@ fn walk(
     if before != end {
         return Listing::Wrong;
     }
-    Listing::Upto(i)
+    Listing::Many(i)
 }
 
 // How many data sectors there are.
@@ -67,7 +67,7 @@ pub fn data_sectors(last: u8, per: u8) -> u16
 }
 
 // The chain of which a slot tells start, end and count.
-pub fn chain_at(image: &[u8], last: u8, per: u8, slot: u32, out: &mut [u16], at: u32) -> Listing
+pub fn chain_at(image: &[u8], last: u8, per: u8, slot: u32, out: &mut [u16], at: usize) -> Listing
     ensures { λ r. ⌜ laid r (now (out .exit)) ≡ chainAt (now (image .entry)) last per slot (now (out .entry)) at ⌝ }
 {
     let start = get2(image, slot as usize + 13);

@@ -5,11 +5,11 @@ use mathlib.Core.Bool.{Bool, true, false}
 use mathlib.Core.List.{List, [], _∷_, _++_}
 use Prim.Native.Nat.{ℕ, zero, suc, _+_, _-_, _*_, _/_, _%_, _≤_, _<_}
 use lib.Dec.{eqb, ltb}
-use lib.ListN.{length, getD}
+use lib.ListN.{length, getD, drop}
 use Rattle.rules.specs.Bytes.{pick, within, byteAt, part, over, one, two, zeros}
 use Rattle.rules.specs.Image.{lastTrack, perTrack, index, isSector, firstFree, lastFree}
 use Rattle.rules.specs.Names.{legal}
-use Rattle.rules.specs.Directory.{live, slots, sizeAt, member, find, vacancy}
+use Rattle.rules.specs.Directory.{live, member, directory, lastSector, slots, find, vacancy, sizeAt}
 use Rattle.rules.specs.Outcome.{done, answer, given, settled, out, saysOf, leftOf}
 use Rattle.rules.specs.Block.{functionIn, activityIn, nameIn, positionIn, idle}
 use Rattle.rules.specs.Transfer.{slotIn}
@@ -24,7 +24,7 @@ use Rattle.laws.specs.Blank.{formatNumbers}
 use Rattle.chains.specs.Once.{rising}
 use Rattle.chains.specs.Chain.{pieces}
 use Rattle.chains.specs.Walk.{chainAt}
-use Rattle.demands.specs.Ledger.{Call, asking, listing, Ledger, file, block, asks, activity, entryOf, imageOf, tableOf, nowhere, slot, fileNamed, vacantSlot}
+use Rattle.demands.specs.Ledger.{Call, asking, File, listing, Ledger, file, block, asks, activity, entryOf, imageOf, tableOf, nowhere, slot, fileNamed, slotForNew}
 use Rattle.demands.specs.Diskette.{ledgerOf, ledgerNumbers, ledgerOwners}
 use Rattle.demands.specs.Service.{Wanted, Service, flex, ansOf, byteOf, imgOf, tabOf, Machine, answers, gave, next, entry, run, log}
 use Rattle.demands.specs.History.{Scene, then, history, scenes, Told, Only, nameThen, Survives, Unnamed, sentBy, Accepts, Reads, shown, filesOn, ahead}
@@ -60,18 +60,28 @@ looks code act = pick (eqb code 0) (eqb act 1) (pick (eqb code 4) (pick (eqb act
 -- the slot that a call of this code names, of the block that begins at f: its place's (0, 4), the one for a new file (2), its name's (12, 13)
 abbrev pub slotNamed : List ℕ → List ℕ → ℕ → ℕ → Lookup
 slotNamed img tab f code =
-    pick (eqb code 0) (slotIn img tab (perTrack img) f)
-    (pick (eqb code 4) (slotIn img tab (perTrack img) f)
-    (pick (eqb code 2) (vacancy img (perTrack img))
-    (find img (perTrack img) (nameIn tab f))))
+    pick (eqb code 0) (slotIn img tab (lastTrack img) (perTrack img) f)
+    (pick (eqb code 4) (slotIn img tab (lastTrack img) (perTrack img) f)
+    (pick (eqb code 2) (vacancy img (lastTrack img) (perTrack img))
+    (find img (lastTrack img) (perTrack img) (nameIn tab f))))
 
--- the data sectors: first free and the position (0), the position (4), last free (12)
+-- 02, "When no slot is left": open for write takes a sector for the directory
+abbrev pub isMissing : Lookup → Bool
+isMissing (At o) = false
+isMissing Missing = true
+isMissing Broken = false
+
+abbrev pub grows : List ℕ → ℕ → Bool
+grows img code = pick (eqb code 2) (isMissing (vacancy img (lastTrack img) (perTrack img))) false
+
+-- the data sectors: first free and the position (0), the position (4), last free (12), first free where the directory grows (2)
 abbrev pub sectorsNamed : List ℕ → List ℕ → ℕ → ℕ → List ℕ
 sectorsNamed img tab f code =
     pick (eqb code 0) (index (perTrack img) (firstFree img) ∷ index (perTrack img) (positionIn tab f) ∷ [])
     (pick (eqb code 4) (index (perTrack img) (positionIn tab f) ∷ [])
     (pick (eqb code 12) (index (perTrack img) (lastFree img) ∷ [])
-    []))
+    (pick (grows img code) (index (perTrack img) (firstFree img) ∷ [])
+    [])))
 
 -- byte p lies in its 24 bytes
 abbrev pub inNamed : Lookup → ℕ → Bool
@@ -79,15 +89,22 @@ inNamed (At o) p = within o (o + 23) p
 inNamed Missing p = false
 inNamed Broken p = false
 
--- first free, last free and count move when a sector is taken (0) or a file is deleted (12)
-abbrev pub movesFree : ℕ → Bool
-movesFree code = pick (eqb code 0) true (eqb code 12)
+-- first free, last free and count move when a sector is taken (0; 2 where the directory grows) or a file is deleted (12)
+abbrev pub movesFree : List ℕ → ℕ → Bool
+movesFree img code = pick (eqb code 0) true (pick (eqb code 12) true (grows img code))
 
--- an accepted call names byte p of the image: on track 0 the information record's 29-34 and the slot, elsewhere the data sectors
+-- byte p lies in the link of a sector
+abbrev pub inLink : ℕ → ℕ → Bool
+inLink k p = within (256 * k) (256 * k + 1) p
+
+-- an accepted call names byte p of the image: the information record's 29-34; the slot; where the directory grows its last sector's link; and,
+-- behind track 0, the data sectors
 unfoldable pub named : List ℕ → List ℕ → ℕ → ℕ → ℕ → Bool
 named img tab f code p =
-    pick (ltb p (256 * perTrack img)) (pick (within 541 546 p) (movesFree code) (inNamed (slotNamed img tab f code) p))
-    (member (p / 256) (sectorsNamed img tab f code))
+    pick (within 541 546 p) (movesFree img code)
+    (pick (inNamed (slotNamed img tab f code) p) true
+    (pick (pick (grows img code) (inLink (lastSector img (lastTrack img) (perTrack img)) p) false) true
+    (pick (ltb p (256 * perTrack img)) false (member (p / 256) (sectorsNamed img tab f code)))))
 
 pub record Demand1 (σ : Service) : Type 0 where
   -- these five have no past: what 01 and 02 say of them is an equation
@@ -167,7 +184,7 @@ pub record FromBlank (σ : Service) : Type 0 where
 
 -- the history's ledger of the start; what it has after these calls, and each of them with what it had before: folds over the log
 abbrev pub begun : Machine → Ledger
-begun x = ledgerOf (perTrackOf x) (x .img) (x .tab)
+begun x = ledgerOf (lastTrackOf x) (perTrackOf x) (x .img) (x .tab)
 
 abbrev pub told : Service → Machine → List Call → Ledger
 told σ x cs = history (lastTrackOf x) (perTrackOf x) (begun x) (log σ x cs)
@@ -245,10 +262,10 @@ pub record Demand2 (σ : Service) : Type 0 where
   -- whatever was called before, what 01 allows can be preset: so a block can be made to ask for what follows
   pub presets : (x : Machine) → Start x → (cs : List Call) (n i v : ℕ)
       → σ .preset (run σ x cs .tab) n i v ≡ flex .preset (tableOf (told σ x cs)) n i v
-  -- and a legal name that no file has, where a slot is left, is opened for write
+  -- and a legal name that no file has, where a slot or a free sector is left, is opened for write
   pub creates : (x : Machine) → Start x → (cs : List Call) (n s b : ℕ) → Asks (told σ x cs) n 2 → Idle (told σ x cs) n
       → legal (nameOf (told σ x cs) n) 0 ≡ true → fileNamed (nameOf (told σ x cs) n) (told σ x cs .slots) ≡ nowhere
-      → vacantSlot (told σ x cs .slots) ≡ slot s
+      → slotForNew (told σ x cs) ≡ slot s
       → Created σ (lastTrackOf x) (perTrackOf x) (run σ x cs) (told σ x cs) n s b
 
 -- ---- DEMAND 3: the diskette stays sound, and is what the history says
@@ -258,9 +275,24 @@ unfoldable pub inSlot : ℕ → List ℕ → Bool
 inSlot p [] = false
 inSlot p (o ∷ os) = pick (within o (o + 23) p) true (inSlot p os)
 
--- slot s of the start begins here
+-- the directory's sectors, and its slots, of an image of the start's shape; slot s of the start begins here
+abbrev pub sectorsIn : Machine → List ℕ → List ℕ
+sectorsIn x img = directory img (lastTrackOf x) (perTrackOf x)
+
+abbrev pub slotsIn : Machine → List ℕ → List ℕ
+slotsIn x img = slots img (lastTrackOf x) (perTrackOf x)
+
 abbrev pub placeIn : Machine → ℕ → ℕ
-placeIn x s = getD (slots (x .img) (perTrackOf x)) s 0
+placeIn x s = getD (slotsIn x (x .img)) s 0
+
+-- where the slots of a ledger begin
+abbrev pub placesOf : List File → List ℕ
+placesOf [] = []
+placesOf (f ∷ fs) = f .at ∷ placesOf fs
+
+-- the second list begins with the first
+abbrev pub Begins : List ℕ → List ℕ → Type 0
+Begins us vs = vs ≡ us ++ drop (length us) vs
 
 -- all 256 bytes of each of these sectors
 abbrev pub wholly : List ℕ → List ℕ → List (List ℕ)
@@ -273,14 +305,18 @@ pub record Sound (σ : Service) (x : Machine) (cs : List Call) : Type 0 where
   pub table : run σ x cs .tab ≡ tableOf (told σ x cs)
   -- the census accepts, and lists what the history has; each data sector once
   pub accepted : (xs ys : List ℕ) → length xs ≡ dataSectors (x .img) → length ys ≡ dataSectors (x .img)
-      → σ .census (run σ x cs .img) xs ys ≡ survey 0 (ledgerNumbers (perTrackOf x) (told σ x cs)) (ledgerOwners (told σ x cs))
+      → σ .census (run σ x cs .img) xs ys ≡ survey 0 (ledgerNumbers (perTrackOf x) (told σ x cs)) (ledgerOwners (perTrackOf x) (told σ x cs))
   pub each-once : (k : ℕ) → k < dataSectors (x .img) → tally k (ledgerNumbers (perTrackOf x) (told σ x cs)) ≡ 1
   pub no-more : length (ledgerNumbers (perTrackOf x) (told σ x cs)) ≡ dataSectors (x .img)
-  -- the slots stand where they stood, and each has its 24 bytes by the history
-  pub places : slots (run σ x cs .img) (perTrackOf x) ≡ slots (x .img) (perTrackOf x)
-  pub entries : (s : ℕ) → s < length (slots (x .img) (perTrackOf x)) → part (run σ x cs .img) (placeIn x s) 24 ≡ entryOf (file (told σ x cs) s)
+  -- the directory's sectors, and its slots, are the history's; the slots of the start stand where they stood, new ones behind them; each slot has its
+  -- 24 bytes by the history; whatever is called next, no sector is given back
+  pub sectors : sectorsIn x (run σ x cs .img) ≡ told σ x cs .dir
+  pub places : slotsIn x (run σ x cs .img) ≡ placesOf (told σ x cs .slots)
+  pub stood : Begins (slotsIn x (x .img)) (slotsIn x (run σ x cs .img))
+  pub keeps : (c : Call) → Begins (told σ x cs .dir) (told σ x (cs ++ c ∷ []) .dir)
+  pub entries : (s : ℕ) → s < length (slotsIn x (run σ x cs .img)) → part (run σ x cs .img) (getD (slotsIn x (run σ x cs .img)) s 0) 24 ≡ entryOf (file (told σ x cs) s)
   -- the files that image and table have, by links, an unfinished sector's bytes from its control block, are those that the history shows
-  pub files : filesOn (perTrackOf x) (run σ x cs .img) (run σ x cs .tab) ≡ shown (told σ x cs)
+  pub files : filesOn (lastTrackOf x) (perTrackOf x) (run σ x cs .img) (run σ x cs .tab) ≡ shown (told σ x cs)
   -- a block that reads gets the first of the bytes that are still to come, or 8
   pub readers : (n b : ℕ) → Asks (told σ x cs) n 0 → activity (block (told σ x cs) n) ≡ 1
       → (answers σ (run σ x cs) (asking n b) ≡ pick (eqb (length (ahead (told σ x cs) (block (told σ x cs) n))) 0) 8 0)
@@ -292,13 +328,15 @@ pub record Sound (σ : Service) (x : Machine) (cs : List Call) : Type 0 where
   pub fetches : (n b : ℕ) → Asks (told σ x cs) n 9 → Idle (told σ x cs) n → isSector (lastTrackOf x) (perTrackOf x) (asks (told σ x cs) n b .position) ≡ true
       → (answers σ (run σ x cs) (asking n b) ≡ 0)
       × (part (next σ (run σ x cs) (asking n b) .tab) (320 * n + 64) 256 ≡ part (run σ x cs .img) (256 * index (perTrackOf x) (asks (told σ x cs) n b .position)) 256)
-  -- every byte of track 0 outside of the slots and of the information record's 29-34 stays; a free sector stays while it is free
-  pub stays : (p : ℕ) → p < 256 * perTrackOf x → within 541 546 p ≡ false → inSlot p (slots (x .img) (perTrackOf x)) ≡ false
+  -- every byte of track 0, and of the directory's sectors, stays, outside of the slots, of the information record's 29-34 and of the link of the
+  -- directory's last sector; a free sector stays while it is free
+  pub stays : (p : ℕ) → pick (ltb p (256 * perTrackOf x)) true (member (p / 256) (sectorsIn x (x .img))) ≡ true → within 541 546 p ≡ false
+      → inSlot p (slotsIn x (x .img)) ≡ false → inLink (lastSector (x .img) (lastTrackOf x) (perTrackOf x)) p ≡ false
       → byteAt (run σ x cs .img) p ≡ byteAt (x .img) p
   pub rests : (c : Call) (k : ℕ) → member k (told σ x cs .free) ≡ true → member k (told σ x (cs ++ c ∷ []) .free) ≡ true
       → part (run σ x (cs ++ c ∷ []) .img) (256 * k + 2) 254 ≡ part (run σ x cs .img) (256 * k + 2) 254
   -- a file of the start that no accepted call deletes or renames keeps its slot's 24 bytes, its sectors, and all 256 bytes of each of them
-  pub spared : (s : ℕ) → s < length (slots (x .img) (perTrackOf x)) → live (x .img) (placeIn x s) ≡ true
+  pub spared : (s : ℕ) → s < length (slotsIn x (x .img)) → live (x .img) (placeIn x s) ≡ true
       → Unnamed (part (x .img) (placeIn x s) 11) (past σ x cs)
       → (part (run σ x cs .img) (placeIn x s) 24 ≡ part (x .img) (placeIn x s) 24)
       × (chainAt (perTrackOf x) (run σ x cs .img) (placeIn x s + 13) ≡ chainAt (perTrackOf x) (x .img) (placeIn x s + 13))

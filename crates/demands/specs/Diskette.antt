@@ -3,10 +3,11 @@ use mathlib.Core.List.{List, [], _∷_, _++_}
 use Prim.Native.Nat.{ℕ, zero, suc, _+_}
 use lib.ListN.{length, replicate}
 use Rattle.rules.specs.Bytes.{pick, part}
-use Rattle.rules.specs.Directory.{live, slots}
+use Rattle.rules.specs.Directory.{live, directory, slots}
+use Rattle.rules.specs.Census.{directoryOwner}
 use Rattle.chains.specs.Tally.{flat}
 use Rattle.chains.specs.Chain.{contents, pieces}
-use Rattle.chains.specs.Walk.{chainAt, numbers}
+use Rattle.chains.specs.Walk.{chainAt, numbers, dataOf}
 use Rattle.demands.specs.Ledger.{File, secsOf, closed, Ledger}
 
 -- ---- the files of an image
@@ -44,25 +45,27 @@ fcbsFrom tab f zero = []
 fcbsFrom tab f (suc c) = part tab f 320 ∷ fcbsFrom tab (f + 320) c
 
 -- THE START: the ledger of an image and of a table whose blocks are all closed
-unfoldable pub ledgerOf : ℕ → List ℕ → List ℕ → Ledger
-ledgerOf S img tab = record {
+unfoldable pub ledgerOf : ℕ → ℕ → List ℕ → List ℕ → Ledger
+ledgerOf M S img tab = record {
   base = img;
   free = chainAt S img 541;
   spare = insides img (chainAt S img 541);
-  slots = filesAt S img (slots img S);
+  dir = directory img M S;
+  heads = pieces 2 14 img (directory img M S);
+  slots = filesAt S img (slots img M S);
   blocks = replicate 8 closed;
   fcbs = fcbsFrom tab 0 8;
 }
 
 -- ---- what the census lists
 
--- of a ledger: the numbers of its sectors, free ones first, then slot by slot; and for each its owner
+-- of a ledger: the numbers of its data sectors, free ones first, then the directory's, then slot by slot; and for each its owner
 abbrev pub ledgerNumbers : ℕ → Ledger → List ℕ
-ledgerNumbers S a = numbers S (a .free ++ flat secsOf (a .slots))
+ledgerNumbers S a = numbers S (a .free ++ (dataOf S (a .dir) ++ flat secsOf (a .slots)))
 
 abbrev pub ownersFrom : ℕ → List File → List ℕ
 ownersFrom owner [] = []
 ownersFrom owner (f ∷ fs) = replicate (length (f .secs)) owner ++ ownersFrom (owner + 1) fs
 
-abbrev pub ledgerOwners : Ledger → List ℕ
-ledgerOwners a = replicate (length (a .free)) 0 ++ ownersFrom 1 (a .slots)
+abbrev pub ledgerOwners : ℕ → Ledger → List ℕ
+ledgerOwners S a = replicate (length (a .free)) 0 ++ (replicate (length (dataOf S (a .dir))) directoryOwner ++ ownersFrom 1 (a .slots))

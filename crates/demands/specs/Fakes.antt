@@ -6,16 +6,17 @@ use Prim.Native.Nat.{ℕ, zero, suc, _+_, _-_, _*_}
 use lib.ListN.{length}
 use lib.Dec.{eqb, ltb}
 use Rattle.rules.specs.Bytes.{pick, byteAt, wordAt, part, over, one, two, zeros}
-use Rattle.rules.specs.Image.{shapeRight, perTrack, freeCount}
-use Rattle.rules.specs.Directory.{slots, neverUsed, named, find, attributesAt}
+use Rattle.rules.specs.Image.{shapeRight, lastTrack, perTrack, index, firstFree, freeCount}
+use Rattle.rules.specs.Directory.{neverUsed, named, lastSector, slots, find, attributesAt}
 use Rattle.rules.specs.Outcome.{Out, out, Told as Reply, told as replied, saysOf, leftOf}
 use Rattle.rules.specs.Block.{functionIn, activityIn, nameIn}
 use Rattle.rules.specs.Files.{readProtected}
-use Rattle.rules.specs.Census.{Survey, survey}
+use Rattle.rules.specs.Census.{Survey, survey, directoryOwner}
 use Rattle.rules.specs.declared.Lookup.{Lookup}
 use Rattle.rules.specs.declared.Lookup.the-variants.{At, Missing, Broken}
 use Rattle.chains.specs.Once.{rising}
 use Rattle.demands.specs.Service.{Wanted, Service, flex}
+use Rattle.demands.specs.Demands.{grows}
 
 -- ---- ours, changed
 
@@ -207,7 +208,7 @@ seenBefore img name (o ∷ os) = pick (neverUsed img o) false (pick (named img n
 
 abbrev pub stopping : Service
 stopping = withCall (λ img tab n b.
-    instead 0 (pick (asksFor 1 tab n) (not (seenBefore img (nameIn tab (320 * n)) (slots img (perTrack img)))) false) (refusal 4 img tab n) (flex .call img tab n b))
+    instead 0 (pick (asksFor 1 tab n) (not (seenBefore img (nameIn tab (320 * n)) (slots img (lastTrack img) (perTrack img)))) false) (refusal 4 img tab n) (flex .call img tab n b))
 
 -- 4 is answered for 5. "5 directory not right"
 abbrev pub softening : Service
@@ -226,7 +227,7 @@ withAttributes v img Broken = img
 
 -- the slot that has the name of block n
 abbrev pub slotOfName : List ℕ → List ℕ → ℕ → Lookup
-slotOfName img tab n = find img (perTrack img) (nameIn tab (320 * n))
+slotOfName img tab n = find img (lastTrack img) (perTrack img) (nameIn tab (320 * n))
 
 -- a file of attribute 32 is opened for read as if it had none. "Open for read gives 17 for such a file, after 4 and before 2"
 abbrev pub asOn : List ℕ → Out → Out
@@ -268,3 +269,48 @@ rash = withFormat (λ img w. pick (eqb (saysOf (flex .format img w)) 40) (replie
 abbrev pub interleaving : Service
 interleaving = withFormat (λ img w.
     replyWith (λ new. over (over (over new 541 (1 ∷ 2 ∷ [])) (256 * w .per) (1 ∷ 3 ∷ [])) (256 * (w .per + 1)) (1 ∷ 1 ∷ [])) (flex .format img w))
+
+-- ---- 02, "The directory grows"
+
+-- a call by which the directory grows
+abbrev pub growsBy : List ℕ → List ℕ → ℕ → Bool
+growsBy img tab n = grows img (functionIn tab (320 * n))
+
+-- a full directory is refused, as it once was. "By the manual the directory expands itself and 6 never occurs"
+abbrev pub balking : Service
+balking = withCall (λ img tab n b. instead 0 (growsBy img tab n) (refusal 6 img tab n) (flex .call img tab n b))
+
+-- what the new sector held before its slots is left there. "clears it"
+abbrev pub smudged : List ℕ → ℕ → List ℕ → List ℕ
+smudged old k new = over new (256 * k + 2) (part old (256 * k + 2) 14)
+
+abbrev pub smudging : Service
+smudging = withCall (λ img tab n b. spoilt (growsBy img tab n) (smudged img (index (perTrack img) (firstFree img))) (λ m. m) (flex .call img tab n b))
+
+-- the new sector is not linked. "and links it behind the last directory sector"
+abbrev pub unlinked : List ℕ → ℕ → List ℕ → List ℕ
+unlinked old k new = over new (256 * k) (part old (256 * k) 2)
+
+abbrev pub detaching : Service
+detaching = withCall (λ img tab n b. spoilt (growsBy img tab n) (unlinked img (lastSector img (lastTrack img) (perTrack img))) (λ m. m) (flex .call img tab n b))
+
+-- the second sector of the directory is free again after a delete, before all others; the census accepts what is left of the start that it is tried
+-- on. "They are never given back"
+abbrev pub givenBack : List ℕ → List ℕ
+givenBack img =
+    pick (eqb (wordAt img 1024) 0) img
+    (over (over (over (over img 1024 (zeros 2)) (256 * index (perTrack img) (wordAt img 1024)) (two (firstFree img))) 541 (part img 1024 2)) 545 (two (freeCount img + 1)))
+
+abbrev pub returning : Service
+returning = withImage (asksFor 12) givenBack
+
+-- a census that lists the directory's sectors as free. "with owner 65,534"
+abbrev pub unmarked : List ℕ → List ℕ
+unmarked [] = []
+unmarked (y ∷ ys) = pick (eqb y directoryOwner) 0 y ∷ unmarked ys
+
+abbrev pub masked : Survey → Survey
+masked (survey a xs ys) = pick (eqb a 0) (survey a xs (unmarked ys)) (survey a xs ys)
+
+abbrev pub masking : Service
+masking = withCensus masked

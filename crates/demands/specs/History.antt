@@ -176,17 +176,17 @@ ahead a (reading s j i) = drop (had j i) (concat ((file a s) .body))
 ahead a (writing s ub) = []
 
 -- in image and table: the bytes that a block which writes the slot at o holds in its buffer
-unfoldable pub buffered : List ℕ → ℕ → ℕ → List ℕ
-buffered tab o zero = []
-buffered tab o (suc n) =
-    pick (uses false tab (placeOf o) n)
+unfoldable pub buffered : ℕ → List ℕ → ℕ → ℕ → List ℕ
+buffered S tab o zero = []
+buffered S tab o (suc n) =
+    pick (uses false tab (placeOf S o) n)
     (pick (eqb (getD tab (320 * n + 34) 0) 0) [] (part tab (320 * n + 68) (getD tab (320 * n + 34) 0 - 4)))
-    (buffered tab o n)
+    (buffered S tab o n)
 
 -- the live ones of these files of an image
-unfoldable pub standing : List ℕ → List File → List Shown
-standing tab [] = []
-standing tab (f ∷ fs) = pick (live (f .name) 0) (asShown f (buffered tab (f .at) 8) ∷ standing tab fs) (standing tab fs)
+unfoldable pub standing : ℕ → List ℕ → List File → List Shown
+standing S tab [] = []
+standing S tab (f ∷ fs) = pick (live (f .name) 0) (asShown f (buffered S tab (f .at) 8) ∷ standing S tab fs) (standing S tab fs)
 
-abbrev pub filesOn : ℕ → List ℕ → List ℕ → List Shown
-filesOn S img tab = standing tab (filesAt S img (slots img S))
+abbrev pub filesOn : ℕ → ℕ → List ℕ → List ℕ → List Shown
+filesOn M S img tab = standing S tab (filesAt S img (slots img M S))

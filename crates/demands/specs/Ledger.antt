@@ -10,14 +10,14 @@ use Rattle.rules.specs.Stores.{Store, store, stored, Put, put, puts}
 use Rattle.rules.specs.Outcome.{Effect, answer, onBlock}
 use Rattle.rules.specs.Image.{index, isSector, infoSector, infoFirst}
 use Rattle.rules.specs.Names.{legal}
-use Rattle.rules.specs.Directory.{named, vacant, placeOf}
+use Rattle.rules.specs.Directory.{firstSlotOf, named, vacant, placeOf, lastOf}
 use Rattle.rules.specs.Block.{functionField, activityField, driveField, nameField, dateField, positionField, recordField, indexField, placeField, newNameField, bufferField, presetIn, extensionIn}
 use Rattle.rules.specs.Transfer.{takePuts, sent, shut}
 use Rattle.rules.specs.Files.{opened, writeProtected, deleteProtected, readProtected}
 use Rattle.rules.specs.Call.{served, fits, misfit}
 use Rattle.chains.specs.Addresses.{adr}
 use Rattle.chains.specs.Tally.{flat}
-use Rattle.chains.specs.Chain.{first, lastOf, setLast}
+use Rattle.chains.specs.Chain.{first, setLast}
 
 -- ---- calls, as they are made: a preset (block, offset, value), a default extension (block, code), a call (block, byte sent)
 
@@ -57,6 +57,10 @@ entryOf f = f .name ++ (f .mode ++ (f .ends ++ f .date))
 abbrev pub noFile : File
 noFile = record { at = 0; name = []; mode = []; ends = []; date = []; secs = []; recs = []; body = [] }
 
+-- a slot that was never used, of zeros
+abbrev pub unusedSlot : ℕ → File
+unusedSlot o = record { at = o; name = zeros 11; mode = zeros 2; ends = zeros 6; date = zeros 5; secs = []; recs = []; body = [] }
+
 -- what a block does: nothing; it lists the directory, so many slots shown; it reads slot s, j sectors loaded, at index i; it writes slot s, with
 -- the bytes that its last sector has not got yet
 pub data Block : Type 0 where
@@ -65,12 +69,15 @@ pub data Block : Type 0 where
   reading : ℕ → ℕ → ℕ → Block
   writing : ℕ → List ℕ → Block
 
--- the start's image, whose bytes stay where nothing below says otherwise; the free sectors in order, and of each its bytes 2-255; the slots in
--- order; what the eight blocks do, and their 320 bytes: what callers have put there and what accepted calls have left there
+-- the start's image, whose bytes stay where nothing below says otherwise; the free sectors in order, and of each its bytes 2-255; the directory's
+-- sectors in order, and of each its bytes 2-15, before the slots; the slots in order; what the eight blocks do, and their 320 bytes: what callers
+-- have put there and what accepted calls have left there
 pub record Ledger : Type 0 where
   pub base : List ℕ
   pub free : List ℕ
   pub spare : List (List ℕ)
+  pub dir : List ℕ
+  pub heads : List (List ℕ)
   pub slots : List File
   pub blocks : List Block
   pub fcbs : List (List ℕ)
@@ -92,7 +99,7 @@ joined [] ds = []
 joined (r ∷ rs) [] = []
 joined (r ∷ rs) (d ∷ ds) = (r ++ d) ∷ joined rs ds
 
--- each sector of a chain: its link, to the sector behind it, then its bytes 2-255
+-- each sector of a chain: its link, to the sector behind it, then its bytes from 2 on
 unfoldable pub chainStores : ℕ → List ℕ → List (List ℕ) → List Store
 chainStores S [] vs = []
 chainStores S (k ∷ ks) [] = []
@@ -108,9 +115,14 @@ fileStores S (f ∷ fs) =
 unfoldable pub freeRecord : ℕ → List ℕ → List ℕ
 freeRecord S ks = six (adr S (first ks 0)) (adr S (lastOf ks 0)) (length ks)
 
--- THE IMAGE: the start's, with the information record's 29-34, the free sectors, the slots and their files stored into it
+-- THE IMAGE: the start's, with the information record's 29-34, the free sectors, the directory's sectors, the slots and their files stored into it
 unfoldable pub imageOf : ℕ → Ledger → List ℕ
-imageOf S a = stored (a .base) (store infoSector infoFirst (freeRecord S (a .free)) ∷ (chainStores S (a .free) (a .spare) ++ fileStores S (a .slots)))
+imageOf S a =
+    stored (a .base)
+    (store infoSector infoFirst (freeRecord S (a .free))
+    ∷ (chainStores S (a .free) (a .spare)
+    ++ (chainStores S (a .dir) (a .heads)
+    ++ fileStores S (a .slots))))
 
 -- THE TABLE: the blocks' bytes
 abbrev pub tableOf : Ledger → List ℕ
@@ -169,9 +181,12 @@ seek wanted (f ∷ fs) = pick (wanted (f .name)) (slot 0) (later (seek wanted fs
 abbrev pub fileNamed : List ℕ → List File → Sought
 fileNamed nm fs = seek (λ x. named x nm 0) fs
 
--- a slot for a new file
+-- a slot for a new file: one that is vacant; or else, if a sector is free, the one behind all slots
 abbrev pub vacantSlot : List File → Sought
 vacantSlot fs = seek (λ x. vacant x 0) fs
+
+abbrev pub slotForNew : Ledger → Sought
+slotForNew a = onSought (vacantSlot (a .slots)) (pick (eqb (length (a .free)) 0) nowhere (slot (length (a .slots)))) (λ s. slot s)
 
 -- ---- blocks in use
 
@@ -197,22 +212,40 @@ busy readers s bs (suc n) = pick (holdsOpen readers s (getD bs n closed)) true (
 -- block n does b from now on
 abbrev pub setBlock : Ledger → ℕ → Block → Ledger
 setBlock a n b =
-    record { base = a .base; free = a .free; spare = a .spare; slots = a .slots; blocks = set (a .blocks) n b; fcbs = a .fcbs }
+    record { base = a .base; free = a .free; spare = a .spare; dir = a .dir; heads = a .heads; slots = a .slots; blocks = set (a .blocks) n b; fcbs = a .fcbs }
 
 -- and slot s becomes f
 abbrev pub setFile : Ledger → ℕ → File → ℕ → Block → Ledger
 setFile a s f n b =
-    record { base = a .base; free = a .free; spare = a .spare; slots = set (a .slots) s f; blocks = set (a .blocks) n b; fcbs = a .fcbs }
+    record { base = a .base; free = a .free; spare = a .spare; dir = a .dir; heads = a .heads; slots = set (a .slots) s f; blocks = set (a .blocks) n b; fcbs = a .fcbs }
 
 -- and these sectors are free, with these bytes 2-255
 abbrev pub setFree : Ledger → List ℕ → List (List ℕ) → ℕ → File → ℕ → Block → Ledger
 setFree a ks vs s f n b =
-    record { base = a .base; free = ks; spare = vs; slots = set (a .slots) s f; blocks = set (a .blocks) n b; fcbs = a .fcbs }
+    record { base = a .base; free = ks; spare = vs; dir = a .dir; heads = a .heads; slots = set (a .slots) s f; blocks = set (a .blocks) n b; fcbs = a .fcbs }
+
+-- the directory gets one more sector, k, the first free one, of zeros: the first of its ten slots becomes f, the others were never used
+unfoldable pub unusedSlots : ℕ → ℕ → List File
+unusedSlots o zero = []
+unusedSlots o (suc n) = unusedSlot o ∷ unusedSlots (o + 24) n
+
+abbrev pub addSector : Ledger → ℕ → List ℕ → File → ℕ → Block → Ledger
+addSector a k fr f n b =
+    record {
+      base = a .base;
+      free = fr;
+      spare = drop 1 (a .spare);
+      dir = a .dir ++ k ∷ [];
+      heads = a .heads ++ zeros 14 ∷ [];
+      slots = a .slots ++ (f ∷ unusedSlots (firstSlotOf k + 24) 9);
+      blocks = set (a .blocks) n b;
+      fcbs = a .fcbs;
+    }
 
 -- bytes are put into block n
 abbrev pub putInto : Ledger → ℕ → List Put → Ledger
 putInto a n ps =
-    record { base = a .base; free = a .free; spare = a .spare; slots = a .slots; blocks = a .blocks; fcbs = set (a .fcbs) n (puts (fcb a n) 0 ps) }
+    record { base = a .base; free = a .free; spare = a .spare; dir = a .dir; heads = a .heads; slots = a .slots; blocks = a .blocks; fcbs = set (a .fcbs) n (puts (fcb a n) 0 ps) }
 
 -- n bytes, the first from l, zeros after them
 unfoldable pub padTo : ℕ → List ℕ → List ℕ
@@ -303,16 +336,22 @@ module _ (M S : ℕ) (a : Ledger) (n : ℕ) (q : Request) where
       (onSought (fileNamed (q .name) (a .slots)) (denied 4) (λ s.
       whenA (readProtected (attributes a s)) 17
       (whenA (busy false s (a .blocks) 8) 2
-      (granted 0 (setBlock a n (reading s 0 0)) (opened 1 ((file a s) .at) (entryOf (file a s)))))))
+      (granted 0 (setBlock a n (reading s 0 0)) (opened S 1 ((file a s) .at) (entryOf (file a s)))))))
 
-  -- 2
+  -- 2: into a vacant slot; else a sector is taken for the directory, if one is free, and the file gets its first slot
+  abbrev pub grown : List ℕ → Fate
+  grown [] = denied 7
+  grown (k ∷ fr) =
+      let new = newFile (firstSlotOf k) (q .name) (q .date) in
+      granted 0 (addSector a k fr new n (writing (length (a .slots)) [])) (opened S 2 (new .at) (entryOf new))
+
   unfoldable pub openedToWrite : Fate
   openedToWrite =
       unlessA (legal (q .name) 0) 21
       (onSought (fileNamed (q .name) (a .slots))
-      (onSought (vacantSlot (a .slots)) (denied 6) (λ s.
+      (onSought (vacantSlot (a .slots)) (grown (a .free)) (λ s.
       let new = newFile ((file a s) .at) (q .name) (q .date) in
-      granted 0 (setFile a s new n (writing s [])) (opened 2 (new .at) (entryOf new))))
+      granted 0 (setFile a s new n (writing s [])) (opened S 2 (new .at) (entryOf new))))
       (λ s. denied 3))
 
   -- 4
@@ -341,7 +380,7 @@ module _ (M S : ℕ) (a : Ledger) (n : ℕ) (q : Request) where
   shownNext closed = denied 18
   shownNext (listing p) =
       pick (ltb p (length (a .slots)))
-      (granted 0 (setBlock a n (listing (suc p))) (put placeField (placeOf ((file a p) .at)) ∷ put nameField (entryOf (file a p)) ∷ []))
+      (granted 0 (setBlock a n (listing (suc p))) (put placeField (placeOf S ((file a p) .at)) ∷ put nameField (entryOf (file a p)) ∷ []))
       (denied 8)
   shownNext (reading s j i) = denied 18
   shownNext (writing s ub) = denied 18

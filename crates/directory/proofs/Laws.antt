@@ -1,70 +1,104 @@
 -- Each way through the functions of this crate, and each turn and way out of their loops. In a loop's laws w is the answer.
-use mathlib.Core.Path.{_≡_, refl, ap, _∙_}
+use mathlib.Core.Path.{_≡_, refl, sym, ap, _∙_}
 use mathlib.Core.Bool.{Bool, true, false, not}
-use mathlib.Core.List.{List, []}
+use mathlib.Core.List.{List, [], _∷_, _++_}
 use Prim.Native.Nat.{ℕ, _+_, _-_, _*_, _/_, _%_, _≤_, _<_}
+use native.Mathlib.Nat.{mul-le-mul}
 use native.Mathlib.Omega.{arith}
-use lib.ListN.{getD}
+use mir.Syntax.{w8, w16}
+use mir.Val.{Fits}
+use lib.ListN.{length, getD}
 use lib.Dec.{leb}
 use borrow.Author.Tests.{le-leb, lt-leb, lt-ltb, le-ltb, eq-eqb, ne-eqb}
-use Rattle.rules.specs.Bytes.{within, part, same}
-use Rattle.rules.specs.Image.{trackOf, sectorOf, index, linkOf}
-use Rattle.rules.specs.Directory.{isDirectory, stepTo, nextOf, onNext, mostOfDirectory, ends, directoryRight, sectorsFrom, directory, slots, neverUsed, deleted, live, scan, named, vacant, find, vacancy, member, isDisplacement, placed, slotBehind}
+use Rattle.rules.specs.Bytes.{pick, wordAt, within, part, one, two, same}
+use Rattle.rules.specs.Image.{trackOf, sectorOf, index, addressOf, isData, linkOf}
+use Rattle.rules.specs.Directory.{isDirectory, stepTo, nextOf, onNext, mostOfDirectory, ends, directoryRight, sectorsFrom, directory, lastOf, slots, neverUsed, deleted, live, scan, named, vacant, find, vacancy, member, placed}
 use Rattle.rules.specs.declared.Next.{Next}
 use Rattle.rules.specs.declared.Next.the-variants.{End, To, Astray}
 use Rattle.rules.specs.declared.Lookup.{Lookup}
 use Rattle.rules.specs.declared.Lookup.the-variants.{At, Missing, Broken}
-use Rattle.laws.specs.Bytes.{same-no, same-on}
+use Rattle.laws.specs.Tests.{never}
+use Rattle.laws.specs.Bytes.{part-at, same-eq, same-no, same-on}
+use Rattle.laws.specs.Slots.{isDisplacement, placed-at, placed-only, placed-none}
 use Rattle.laws.specs.Walk.{ends-more, ends-none, sectors-more, sectors-none}
-use Rattle.laws.specs.Visits.{visits, mostSlots, firstSlot, pass-none, pass-here, pass-next, pass-last, pass-broken, pass-first}
+use Rattle.laws.specs.Visits.{stepSlot, visits, mostSlots, firstSlot, pass-none, pass-here, pass-next, pass-last, pass-broken, pass-first}
+use Rattle.directory.specs.declared.Extent.{Extent}
+use Rattle.directory.specs.Extents.{extentOf}
 use Rattle.directory.specs.Sought.{looked, sought}
+
+pub product : (x y : ℕ) → x ≤ 255 → y ≤ 255 → x * y ≤ 65025
+product x y h k = mul-le-mul h k
 
 -- ---- links
 
-module _ (S a : ℕ) where
-  pub off-track : (trackOf a ≡ 0 → ⊥) → false ≡ isDirectory S a
+module _ (M S a : ℕ) where
+  pub off-track : {r : Bool} → (trackOf a ≡ 0 → ⊥) → r ≡ isData M S a → r ≡ isDirectory M S a
   unfolding isDirectory
-  off-track h = rw (ne-eqb (trackOf a) 0 h) refl
+  off-track h e = rw (ne-eqb (trackOf a) 0 h) e
 
   module _ (h : trackOf a ≡ 0) where
-    pub before-fifth : sectorOf a < 5 → false ≡ isDirectory S a
+    pub before-fifth : sectorOf a < 5 → false ≡ isDirectory M S a
     unfolding isDirectory within
     before-fifth k = rw (eq-eqb (trackOf a) 0 h, lt-leb 5 (sectorOf a) k) refl
 
-    pub up-to-last : 5 ≤ sectorOf a → leb (sectorOf a) S ≡ isDirectory S a
+    pub up-to-last : 5 ≤ sectorOf a → leb (sectorOf a) S ≡ isDirectory M S a
     unfolding isDirectory within
     up-to-last k = rw (eq-eqb (trackOf a) 0 h, le-leb 5 (sectorOf a) k) refl
 
-module _ (S a : ℕ) (h : a ≡ 0 → ⊥) {r : Bool} (e : r ≡ isDirectory S a) where
-  pub step-astray : r ≡ false → Astray ≡ stepTo S a
+module _ (M S a : ℕ) (h : a ≡ 0 → ⊥) {r : Bool} (e : r ≡ isDirectory M S a) where
+  pub step-astray : r ≡ false → Astray ≡ stepTo M S a
   unfolding stepTo
   step-astray k = rw (ne-eqb a 0 h, ← e, k) refl
 
-  pub step-on : {j : ℕ} → r ≡ true → j ≡ index S a → To j ≡ stepTo S a
+  pub step-on : {j : ℕ} → r ≡ true → j ≡ index S a → To j ≡ stepTo M S a
   unfolding stepTo
   step-on k q = rw (ne-eqb a 0 h, ← e, k, q) refl
 
-pub next-by : (img : List ℕ) (S k : ℕ) {a : ℕ} {o : Next} → a ≡ linkOf img k → o ≡ stepTo S a → o ≡ nextOf img S k
-next-by img S k e q = q ∙ ap (stepTo S) e
+pub next-by : (img : List ℕ) (M S k : ℕ) {a : ℕ} {o : Next} → a ≡ linkOf img k → o ≡ stepTo M S a → o ≡ nextOf img M S k
+next-by img M S k e q = q ∙ ap (stepTo M S) e
 
 -- ---- the walk
 
-module _ (img : List ℕ) (S n k : ℕ) {w : Bool} {a : Next} (v : w ≡ ends img S n k) (h : 0 < n) (e : a ≡ nextOf img S k) where
+module _ (img : List ℕ) (M S n k : ℕ) {w : Bool} {a : Next} (v : w ≡ ends img M S n k) (h : 0 < n) (e : a ≡ nextOf img M S k) where
   pub ends-end : a ≡ End → true ≡ w
-  ends-end j = rw (v, ends-more img S n k h, ← e, j) refl
+  ends-end j = rw (v, ends-more img M S n k h, ← e, j) refl
 
   pub ends-astray : a ≡ Astray → false ≡ w
-  ends-astray j = rw (v, ends-more img S n k h, ← e, j) refl
+  ends-astray j = rw (v, ends-more img M S n k h, ← e, j) refl
 
-  pub ends-to : {x : ℕ} → a ≡ To x → w ≡ ends img S (n - 1) x
-  ends-to j = rw (v, ends-more img S n k h, ← e, j) refl
+  pub ends-to : {x : ℕ} → a ≡ To x → w ≡ ends img M S (n - 1) x
+  ends-to j = rw (v, ends-more img M S n k h, ← e, j) refl
 
-pub ends-out : (img : List ℕ) (S n k : ℕ) {w : Bool} → w ≡ ends img S n k → n ≤ 0 → false ≡ w
-ends-out img S n k v h = rw (v, ends-none img S n k h) refl
+pub ends-out : (img : List ℕ) (M S n k : ℕ) {w : Bool} → w ≡ ends img M S n k → n ≤ 0 → false ≡ w
+ends-out img M S n k v h = rw (v, ends-none img M S n k h) refl
 
-pub right-from : (img : List ℕ) (S : ℕ) {n : ℕ} → n ≡ mostOfDirectory S → directoryRight img S ≡ ends img S n 4
+pub right-from : (img : List ℕ) (M S : ℕ) {n : ℕ} → n ≡ mostOfDirectory M S → directoryRight img M S ≡ ends img M S n 4
 unfolding directoryRight
-right-from img S e = rw e refl
+right-from img M S e = rw e refl
+
+-- how far it goes: m sectors lie behind, the last of them is x
+abbrev pub extentFrom : List ℕ → ℕ → ℕ → ℕ → ℕ → ℕ → ℕ → Extent
+extentFrom img M S n k x m = record { end = lastOf (sectorsFrom img M S n k) x; sectors = m + length (sectorsFrom img M S n k) }
+
+module _ (img : List ℕ) (M S n k x m : ℕ) {w : Extent} {a : Next} (v : w ≡ extentFrom img M S n k x m) (h : 0 < n) (e : a ≡ nextOf img M S k) where
+  extent-more : w ≡ record { end = lastOf (onNext a [] [] (λ j. sectorsFrom img M S (n - 1) j)) k; sectors = m + length (k ∷ onNext a [] [] (λ j. sectorsFrom img M S (n - 1) j)) }
+  extent-more = rw (v, sectors-more img M S n k h, ← e) refl
+
+  pub extent-end : a ≡ End → record { end = k; sectors = m + 1 } ≡ w
+  extent-end j = rw (extent-more, j) refl
+
+  pub extent-astray : a ≡ Astray → record { end = k; sectors = m + 1 } ≡ w
+  extent-astray j = rw (extent-more, j) refl
+
+  pub extent-to : {y : ℕ} → a ≡ To y → w ≡ extentFrom img M S (n - 1) y k (m + 1)
+  extent-to {y} j = rw (extent-more, j) (ap (λ (i : ℕ). record { end = lastOf (sectorsFrom img M S (n - 1) y) k; sectors = i }) (omega arith))
+
+pub extent-out : (img : List ℕ) (M S n k x m : ℕ) {w : Extent} → w ≡ extentFrom img M S n k x m → n ≤ 0 → record { end = x; sectors = m } ≡ w
+extent-out img M S n k x m v h = rw (v, sectors-none img M S n k h) (ap (λ (i : ℕ). record { end = x; sectors = i }) (omega arith))
+
+pub extent-from : (img : List ℕ) (M S : ℕ) {n : ℕ} → n ≡ mostOfDirectory M S → extentOf img M S ≡ extentFrom img M S n 4 4 0
+unfolding extentOf directory
+extent-from img M S e = rw e (ap (λ (i : ℕ). record { end = lastOf (sectorsFrom img M S (mostOfDirectory M S) 4) 4; sectors = i }) (omega arith))
 
 -- ---- a slot looked at
 
@@ -93,6 +127,44 @@ module _ (xs ys : List ℕ) (p q i n : ℕ) {w : Bool} {a b : ℕ} (e : a ≡ ge
 pub run-start : (xs ys : List ℕ) (p q n : ℕ) → same (part xs p n) (part ys q n) ≡ same (part xs (p + 0) n) (part ys (q + 0) n)
 run-start xs ys p q n = let x : p + 0 ≡ p = omega arith in let y : q + 0 ≡ q = omega arith in rw (x, y) refl
 
+-- two letters as a number
+pub letters-word : (tab : List ℕ) (at i : ℕ) {a b : ℕ} → a ≡ getD tab (at + i) 0 → b ≡ getD tab (at + (i + 1)) 0 → a * 256 + b ≡ wordAt tab (at + i)
+unfolding wordAt
+letters-word tab at i e d = let x : at + (i + 1) ≡ at + i + 1 = omega arith in rw (e, d, x) refl
+
+-- names that differ in two letters
+module _ (img tab : List ℕ) (slot at d : ℕ) (h : d + 1 < 11) {a b : ℕ} (p : a ≡ wordAt img (slot + d)) (q : b ≡ wordAt tab (at + d)) (n : a ≡ b → ⊥) where
+  other : same (part img slot 11) (part tab at 11) ≡ false
+  unfolding wordAt
+  other = go (same (part img slot 11) (part tab at 11)) refl
+    where
+      letter : part img slot 11 ≡ part tab at 11 → (i : ℕ) → i < 11 → getD img (slot + i) 0 ≡ getD tab (at + i) 0
+      letter e i l = sym (part-at img slot 11 i l) ∙ ap (λ (m : List ℕ). getD m i 0) e ∙ part-at tab at 11 i l
+
+      go : (t : Bool) → same (part img slot 11) (part tab at 11) ≡ t → t ≡ false
+      go true e =
+          let s = same-eq (part img slot 11) (part tab at 11) e in
+          let x = letter s d (omega arith) in
+          let y : getD img (slot + d + 1) 0 ≡ getD tab (at + d + 1) 0 = rw (let u : slot + d + 1 ≡ slot + (d + 1) = omega arith in u, let v : at + d + 1 ≡ at + (d + 1) = omega arith in v) (letter s (d + 1) h) in
+          absurd (n (omega (arith, x, y)))
+      go false e = refl
+
+  named-other : false ≡ named img (part tab at 11) slot
+  unfolding named
+  named-other = rw other (sym (neither (live img slot)))
+    where
+      neither : (t : Bool) → pick t false false ≡ false
+      neither true = refl
+      neither false = refl
+
+pub named-end : (img tab : List ℕ) (slot at : ℕ) {a b : ℕ} → a ≡ wordAt img (slot + 6) → b ≡ wordAt tab (at + 6) → (a ≡ b → ⊥)
+    → false ≡ named img (part tab at 11) slot
+named-end img tab slot at p q n = named-other img tab slot at 6 (omega arith) p q n
+
+pub named-third : (img tab : List ℕ) (slot at : ℕ) {a b : ℕ} → a ≡ wordAt img (slot + 2) → b ≡ wordAt tab (at + 2) → (a ≡ b → ⊥)
+    → false ≡ named img (part tab at 11) slot
+named-third img tab slot at p q n = named-other img tab slot at 2 (omega arith) p q n
+
 module _ (img name : List ℕ) (slot : ℕ) {free : Bool} where
   pub looked-free : {l : Bool} → l ≡ live img slot → free ≡ true → not l ≡ looked free img name slot
   unfolding looked vacant
@@ -104,62 +176,62 @@ module _ (img name : List ℕ) (slot : ℕ) {free : Bool} where
 
 -- ---- the scan
 
-module _ (wanted : ℕ → Bool) (img : List ℕ) (S n o : ℕ) {w : Lookup} (v : w ≡ scan wanted (visits img S n o)) where
+module _ (wanted : ℕ → Bool) (img : List ℕ) (M S n o : ℕ) {w : Lookup} (v : w ≡ scan wanted (visits img M S n o)) where
   pub scan-none : n ≤ 0 → Missing ≡ w
   unfolding scan
-  scan-none h = pass-none (scan wanted) img S n o v h
+  scan-none h = pass-none (scan wanted) img M S n o v h
 
   module _ {a : Bool} (h : 0 < n) (q : a ≡ wanted o) where
     pub scan-here : a ≡ true → At o ≡ w
     unfolding scan
-    scan-here t = rw (pass-here (scan wanted) img S n o v h, ← q, t) refl
+    scan-here t = rw (pass-here (scan wanted) img M S n o v h, ← q, t) refl
 
-    module _ {l : Lookup} (t : a ≡ false) (e : l ≡ slotBehind img S o) where
-      pub scan-next : {p : ℕ} → l ≡ At p → w ≡ scan wanted (visits img S (n - 1) p)
+    module _ {l : Lookup} (t : a ≡ false) (e : l ≡ stepSlot img M S o) where
+      pub scan-next : {p : ℕ} → l ≡ At p → w ≡ scan wanted (visits img M S (n - 1) p)
       unfolding scan
-      scan-next k = rw (pass-next (scan wanted) img S n o v h e k, ← q, t) refl
+      scan-next k = rw (pass-next (scan wanted) img M S n o v h e k, ← q, t) refl
 
       pub scan-last : l ≡ Missing → Missing ≡ w
       unfolding scan
-      scan-last k = rw (pass-last (scan wanted) img S n o v h e k, ← q, t) refl
+      scan-last k = rw (pass-last (scan wanted) img M S n o v h e k, ← q, t) refl
 
       pub scan-broken : l ≡ Broken → Missing ≡ w
       unfolding scan
-      scan-broken k = rw (pass-broken (scan wanted) img S n o v h e k, ← q, t) refl
+      scan-broken k = rw (pass-broken (scan wanted) img M S n o v h e k, ← q, t) refl
 
-pub scan-first : (wanted : ℕ → Bool) (img : List ℕ) (S n : ℕ) → n ≡ mostSlots S → scan wanted (slots img S) ≡ scan wanted (visits img S n firstSlot)
-scan-first wanted img S n h = pass-first (scan wanted) img S n h
+pub scan-first : (wanted : ℕ → Bool) (img : List ℕ) (M S n : ℕ) → n ≡ mostSlots M S → scan wanted (slots img M S) ≡ scan wanted (visits img M S n firstSlot)
+scan-first wanted img M S n h = pass-first (scan wanted) img M S n h
 
 -- ---- search and vacancy
 
-module _ (free : Bool) (img name : List ℕ) (S : ℕ) {r : Bool} (e : r ≡ directoryRight img S) where
-  pub sought-wrong : r ≡ false → Broken ≡ sought free img S name
+module _ (free : Bool) (img name : List ℕ) (M S : ℕ) {r : Bool} (e : r ≡ directoryRight img M S) where
+  pub sought-wrong : r ≡ false → Broken ≡ sought free img M S name
   unfolding sought
   sought-wrong k = rw (← e, k) refl
 
-  pub sought-right : {o : Lookup} → r ≡ true → o ≡ scan (looked free img name) (slots img S) → o ≡ sought free img S name
+  pub sought-right : {o : Lookup} → r ≡ true → o ≡ scan (looked free img name) (slots img M S) → o ≡ sought free img M S name
   unfolding sought
   sought-right k d = rw (← e, k) d
 
-pub sought-find : (img : List ℕ) (S : ℕ) (name : List ℕ) {o : Lookup} → o ≡ sought false img S name → o ≡ find img S name
+pub sought-find : (img : List ℕ) (M S : ℕ) (name : List ℕ) {o : Lookup} → o ≡ sought false img M S name → o ≡ find img M S name
 unfolding sought looked find
-sought-find img S name e = e
+sought-find img M S name e = e
 
-pub sought-vacancy : (img : List ℕ) (S : ℕ) (name : List ℕ) {o : Lookup} → o ≡ sought true img S name → o ≡ vacancy img S
+pub sought-vacancy : (img : List ℕ) (M S : ℕ) (name : List ℕ) {o : Lookup} → o ≡ sought true img M S name → o ≡ vacancy img M S
 unfolding sought looked vacancy
-sought-vacancy img S name e = e
+sought-vacancy img M S name e = e
 
 -- ---- places
 
-module _ (img : List ℕ) (S n k x : ℕ) {w : Bool} (v : w ≡ member x (sectorsFrom img S n k)) (h : 0 < n) where
+module _ (img : List ℕ) (M S n k x : ℕ) {w : Bool} (v : w ≡ member x (sectorsFrom img M S n k)) (h : 0 < n) where
   pub member-here : k ≡ x → true ≡ w
   unfolding member
-  member-here e = rw (v, sectors-more img S n k h, eq-eqb k x e) refl
+  member-here e = rw (v, sectors-more img M S n k h, eq-eqb k x e) refl
 
-  module _ (d : k ≡ x → ⊥) {b : Next} (g : b ≡ nextOf img S k) where
-    member-more : w ≡ member x (onNext b [] [] (λ j. sectorsFrom img S (n - 1) j))
+  module _ (d : k ≡ x → ⊥) {b : Next} (g : b ≡ nextOf img M S k) where
+    member-more : w ≡ member x (onNext b [] [] (λ j. sectorsFrom img M S (n - 1) j))
     unfolding member
-    member-more = rw (v, sectors-more img S n k h, ne-eqb k x d, g) refl
+    member-more = rw (v, sectors-more img M S n k h, ne-eqb k x d, g) refl
 
     pub member-end : b ≡ End → false ≡ w
     unfolding member
@@ -169,56 +241,74 @@ module _ (img : List ℕ) (S n k x : ℕ) {w : Bool} (v : w ≡ member x (sector
     unfolding member
     member-astray j = rw (member-more, j) refl
 
-    pub member-to : {y : ℕ} → b ≡ To y → w ≡ member x (sectorsFrom img S (n - 1) y)
+    pub member-to : {y : ℕ} → b ≡ To y → w ≡ member x (sectorsFrom img M S (n - 1) y)
     member-to j = rw (member-more, j) refl
 
-pub member-out : (img : List ℕ) (S n k x : ℕ) {w : Bool} → w ≡ member x (sectorsFrom img S n k) → n ≤ 0 → false ≡ w
+pub member-out : (img : List ℕ) (M S n k x : ℕ) {w : Bool} → w ≡ member x (sectorsFrom img M S n k) → n ≤ 0 → false ≡ w
 unfolding member
-member-out img S n k x v h = rw (v, sectors-none img S n k h) refl
+member-out img M S n k x v h = rw (v, sectors-none img M S n k h) refl
 
-pub member-from : (img : List ℕ) (S x : ℕ) {n : ℕ} → n ≡ mostOfDirectory S → member x (directory img S) ≡ member x (sectorsFrom img S n 4)
+pub member-from : (img : List ℕ) (M S x : ℕ) {n : ℕ} → n ≡ mostOfDirectory M S → member x (directory img M S) ≡ member x (sectorsFrom img M S n 4)
 unfolding directory
-member-from img S x e = rw e refl
+member-from img M S x e = rw e refl
 
-module _ (img : List ℕ) (S a d : ℕ) {r : Bool} (e : r ≡ directoryRight img S) where
-  pub placed-wrong : r ≡ false → Broken ≡ placed img S a d
+-- an address, and a displacement of one byte
+abbrev placeBy : ℕ → ℕ → List ℕ
+placeBy a d = two a ++ one d
+
+module _ (img : List ℕ) (M S a d : ℕ) {r : Bool} (e : r ≡ directoryRight img M S) where
+  pub place-wrong : r ≡ false → Broken ≡ placed img M S (placeBy a d)
   unfolding placed
-  placed-wrong j = rw (← e, j) refl
+  place-wrong j = rw (← e, j) refl
 
-  module _ (j : r ≡ true) {t : Bool} (q : t ≡ isDirectory S a) where
-    pub placed-out : t ≡ false → Missing ≡ placed img S a d
-    unfolding placed
-    placed-out l = rw (← e, j, ← q, l) refl
+  module _ (fs : Fits w8 S) (fa : Fits w16 a) (fd : Fits w8 d) (j : r ≡ true) {k : ℕ} {m : Bool} (x : k ≡ index S a) (p : m ≡ member k (directory img M S)) where
+    some : S < 256
+    some = omega (arith, fs)
 
-    module _ (l : t ≡ true) {k : ℕ} {m : Bool} (x : k ≡ index S a) (p : m ≡ member k (directory img S)) where
-      pub placed-not : m ≡ false → Missing ≡ placed img S a d
-      unfolding placed
-      placed-not f = rw (← e, j, ← q, l, ← x, ← p, f) refl
+    right : directoryRight img M S ≡ true
+    right = sym e ∙ j
 
-      module _ (f : m ≡ true) {u : Bool} (g : u ≡ isDisplacement d) where
-        pub placed-between : u ≡ false → Missing ≡ placed img S a d
-        unfolding placed
-        placed-between z = rw (← e, j, ← q, l, ← x, ← p, f, ← g, z) refl
+    -- what a slot there would mean
+    abbrev Only : Type 0
+    Only = (member (index S a) (directory img M S) ≡ true) × (addressOf S (index S a) ≡ a) × (isDisplacement d ≡ true)
 
-        pub placed-at : u ≡ true → At (256 * k + d) ≡ placed img S a d
-        unfolding placed
-        placed-at z = rw (← e, j, ← q, l, ← x, ← p, f, ← g, z) refl
+    nowhere : (Only → ⊥) → Missing ≡ placed img M S (placeBy a d)
+    nowhere h = sym (placed-none img M S some a d (omega (arith, fa)) (omega (arith, fd)) right (λ o q. h (placed-only img M S some a d (omega (arith, fa)) (omega (arith, fd)) o q)))
+
+    pub place-foreign : m ≡ false → Missing ≡ placed img M S (placeBy a d)
+    place-foreign f = nowhere (λ q. never (sym f ∙ p ∙ ap (λ (y : ℕ). member y (directory img M S)) x ∙ q .0))
+
+    module _ (f : m ≡ true) {b : ℕ} (w : b ≡ addressOf S k) where
+      pub place-strange : (b ≡ a → ⊥) → Missing ≡ placed img M S (placeBy a d)
+      place-strange h = nowhere (λ q. h (w ∙ ap (addressOf S) x ∙ q .1))
+
+      module _ (y : b ≡ a) {u : Bool} (g : u ≡ isDisplacement d) where
+        pub place-between : u ≡ false → Missing ≡ placed img M S (placeBy a d)
+        place-between z = nowhere (λ q. never (sym z ∙ g ∙ q .2))
+
+        pub place-there : u ≡ true → At (256 * k + d) ≡ placed img M S (placeBy a d)
+        place-there z =
+            ap (λ (i : ℕ). At (256 * i + d)) x
+            ∙ sym (placed-at img M S some a d (omega (arith, fa)) (omega (arith, fd)) right
+            (ap (λ (i : ℕ). member i (directory img M S)) (sym x) ∙ sym p ∙ f)
+            (ap (addressOf S) (sym x) ∙ sym w ∙ y)
+            (sym g ∙ z))
 
 -- ---- the slot behind
 
-pub behind-near : (img : List ℕ) (S slot : ℕ) → slot % 256 < 232 → At (slot + 24) ≡ slotBehind img S slot
-unfolding slotBehind
-behind-near img S slot h = rw (lt-ltb (slot % 256) 232 h) refl
+pub behind-near : (img : List ℕ) (M S slot : ℕ) → slot % 256 < 232 → At (slot + 24) ≡ stepSlot img M S slot
+unfolding stepSlot
+behind-near img M S slot h = rw (lt-ltb (slot % 256) 232 h) refl
 
-module _ (img : List ℕ) (S slot : ℕ) {a : Next} (h : 232 ≤ slot % 256) (e : a ≡ nextOf img S (slot / 256)) where
-  pub behind-end : a ≡ End → Missing ≡ slotBehind img S slot
-  unfolding slotBehind
+module _ (img : List ℕ) (M S slot : ℕ) {a : Next} (h : 232 ≤ slot % 256) (e : a ≡ nextOf img M S (slot / 256)) where
+  pub behind-end : a ≡ End → Missing ≡ stepSlot img M S slot
+  unfolding stepSlot
   behind-end j = rw (le-ltb (slot % 256) 232 h, ← e, j) refl
 
-  pub behind-astray : a ≡ Astray → Broken ≡ slotBehind img S slot
-  unfolding slotBehind
+  pub behind-astray : a ≡ Astray → Broken ≡ stepSlot img M S slot
+  unfolding stepSlot
   behind-astray j = rw (le-ltb (slot % 256) 232 h, ← e, j) refl
 
-  pub behind-to : {k : ℕ} → a ≡ To k → At (256 * k + 16) ≡ slotBehind img S slot
-  unfolding slotBehind
+  pub behind-to : {k : ℕ} → a ≡ To k → At (256 * k + 16) ≡ stepSlot img M S slot
+  unfolding stepSlot
   behind-to j = rw (le-ltb (slot % 256) 232 h, ← e, j) refl

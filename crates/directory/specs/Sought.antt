@@ -10,5 +10,5 @@ use Rattle.rules.specs.declared.Lookup.{Lookup}
 unfoldable pub looked : Bool → List ℕ → List ℕ → ℕ → Bool
 looked free img name slot = pick free (vacant img slot) (named img name slot)
 
-unfoldable pub sought : Bool → List ℕ → ℕ → List ℕ → Lookup
-sought free img S name = inDirectory img S (looked free img name)
+unfoldable pub sought : Bool → List ℕ → ℕ → ℕ → List ℕ → Lookup
+sought free img M S name = inDirectory img M S (looked free img name)

@@ -2,8 +2,8 @@
 use mathlib.Core.Path.{_≡_, refl, ap, _∙_}
 use mathlib.Core.Bool.{Bool, true, false, not}
 use mathlib.Core.List.{List}
-use Prim.Native.Nat.{ℕ, _+_, _-_, _*_, _≤_, _<_}
-use native.Mathlib.Nat.{mul-le-mul}
+use Prim.Native.Nat.{ℕ, _+_, _-_, _*_, _/_, _%_, _≤_, _<_}
+use native.Mathlib.Nat.{mul-le-mul, div-zero, mod-zero, div-le-self, mod-le}
 use native.Mathlib.Omega.{arith}
 use borrow.Rule.Slice.PartMut.{midOf, putMid}
 use lib.ListN.{length, getD}
@@ -11,7 +11,7 @@ use lib.Dec.{eqb, leb}
 use borrow.Author.Tests.{le-leb, lt-leb, not-true, not-false}
 use Rattle.rules.specs.Bytes.{within, part, over, two}
 use Rattle.rules.specs.Stores.{stored}
-use Rattle.rules.specs.Image.{withinLimits, shapeRight}
+use Rattle.rules.specs.Image.{withinLimits, shapeRight, addressOf}
 use Rattle.rules.specs.Transfer.{linked}
 use Rattle.laws.specs.Bytes.{length-part}
 use Rattle.laws.specs.Lent.{over-within}
@@ -20,6 +20,15 @@ use Rattle.disk.specs.declared.Shaped.the-variants.{Right, Wrong}
 
 pub product : (x y : ℕ) → x ≤ 256 → y ≤ 255 → x * y ≤ 65280
 product x y h k = mul-le-mul h k
+
+-- no sector on a track
+pub address-none : (S k : ℕ) → S ≡ 0 → k + 1 ≡ addressOf S k
+unfolding addressOf
+address-none S k h = rw (h, div-zero k, mod-zero k) (omega arith)
+
+-- how large its digits are
+pub digits-few : (S k : ℕ) → (k / S ≤ k) × (k % S ≤ k)
+digits-few S k = (div-le-self k S, mod-le k S)
 
 -- the limits' tests in their order
 pub no-track : (M S : ℕ) → M < 1 → false ≡ withinLimits M S

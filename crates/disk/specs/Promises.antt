@@ -4,7 +4,7 @@ use mathlib.Core.List.{List}
 use Prim.Native.Nat.{ℕ, _+_, _*_}
 use Rattle.rules.specs.Bytes.{part, over, six}
 use Rattle.rules.specs.Stores.{stored}
-use Rattle.rules.specs.Image.{withinLimits, index, isSector, isData, linkOf, infoSector, infoFirst}
+use Rattle.rules.specs.Image.{withinLimits, index, addressOf, isSector, isData, linkOf, infoSector, infoFirst}
 use Rattle.rules.specs.Transfer.{fresh, linked}
 use Rattle.laws.specs.Single.{Single, single}
 use Rattle.disk.specs.Loaded.{shapeOf, freeOf}
@@ -20,6 +20,9 @@ shape-of-single img = single (shapeOf img)
 
 pub index-of-single : (S a : ℕ) → Single (index S a)
 index-of-single S a = single (index S a)
+
+pub address-of-single : (S k : ℕ) → Single (addressOf S k)
+address-of-single S k = single (addressOf S k)
 
 pub is-sector-single : (M S a : ℕ) → Single (isSector M S a)
 is-sector-single M S a = single (isSector M S a)

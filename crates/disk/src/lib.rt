@@ -3,7 +3,7 @@ ghost use mathlib.Core.Path.{_≡_};
 ghost use Prim.Native.Nat.{_+_, _*_, _≤_};
 ghost use Rattle.rules.specs.Bytes.{part, over, six};
 ghost use Rattle.rules.specs.Stores.{stored};
-ghost use Rattle.rules.specs.Image.{withinLimits, index, isSector, isData, linkOf, infoSector, infoFirst};
+ghost use Rattle.rules.specs.Image.{withinLimits, index, addressOf, isSector, isData, linkOf, infoSector, infoFirst};
 ghost use Rattle.rules.specs.Transfer.{fresh, linked};
 ghost use Rattle.disk.specs.Loaded.{isShape, shapeOf, freeOf};
 use cells::copy;
@@ -92,6 +92,18 @@ pub fn index_of(per: u8, a: u16) -> u16
         return 0;
     }
     n - 1
+}
+
+// The address of the sector with the index k. A number of two bytes where that sector is on a track up to 255.
+pub fn address_of(per: u8, k: u32) -> usize
+    ensures { λ r. ⌜ r ≡ addressOf per k ⌝ }
+{
+    if per == 0 {
+        return k as usize + 1; // no track has a sector: what the rule gives by division by 0
+    }
+    let track = k / per as u32;
+    let place = k % per as u32;
+    256 * track as usize + place as usize + 1
 }
 
 // Is there a sector at an address?

@@ -9,11 +9,11 @@ use Rattle.laws.specs.Single.{SingleOut, single-out}
 one-outcome : (img tab : List ℕ) (f : ℕ) (o : Outcome) → SingleOut (left img tab f (settled o))
 one-outcome img tab f o = single-out (left img tab f (settled o))
 
-pub open-read-single : (img tab : List ℕ) (S f : ℕ) → SingleOut (left img tab f (settled (openRead img tab S f)))
-open-read-single img tab S f = one-outcome img tab f (openRead img tab S f)
+pub open-read-single : (img tab : List ℕ) (M S f : ℕ) → SingleOut (left img tab f (settled (openRead img tab M S f)))
+open-read-single img tab M S f = one-outcome img tab f (openRead img tab M S f)
 
-pub open-write-single : (img tab : List ℕ) (S f : ℕ) → SingleOut (left img tab f (settled (openWrite img tab S f)))
-open-write-single img tab S f = one-outcome img tab f (openWrite img tab S f)
+pub open-write-single : (img tab : List ℕ) (M S f : ℕ) → SingleOut (left img tab f (settled (openWrite img tab M S f)))
+open-write-single img tab M S f = one-outcome img tab f (openWrite img tab M S f)
 
 pub rewind-single : (tab : List ℕ) (f : ℕ) → SingleOut (left [] tab f (settled rewind))
 rewind-single tab f = one-outcome [] tab f rewind
@@ -21,8 +21,8 @@ rewind-single tab f = one-outcome [] tab f rewind
 pub open-directory-single : (tab : List ℕ) (f : ℕ) → SingleOut (left [] tab f (settled openDirectory))
 open-directory-single tab f = one-outcome [] tab f openDirectory
 
-pub next-slot-single : (img tab : List ℕ) (S f : ℕ) → SingleOut (left img tab f (settled (nextSlot img tab S f)))
-next-slot-single img tab S f = one-outcome img tab f (nextSlot img tab S f)
+pub next-slot-single : (img tab : List ℕ) (M S f : ℕ) → SingleOut (left img tab f (settled (nextSlot img tab M S f)))
+next-slot-single img tab M S f = one-outcome img tab f (nextSlot img tab M S f)
 
 pub read-sector-single : (img tab : List ℕ) (M S f : ℕ) → SingleOut (left img tab f (settled (readSector img tab M S f)))
 read-sector-single img tab M S f = one-outcome img tab f (readSector img tab M S f)
@@ -30,5 +30,5 @@ read-sector-single img tab M S f = one-outcome img tab f (readSector img tab M S
 pub delete-single : (img tab : List ℕ) (M S f : ℕ) → SingleOut (left img tab f (settled (delete img tab M S f)))
 delete-single img tab M S f = one-outcome img tab f (delete img tab M S f)
 
-pub rename-single : (img tab : List ℕ) (S f : ℕ) → SingleOut (left img tab f (settled (rename img tab S f)))
-rename-single img tab S f = one-outcome img tab f (rename img tab S f)
+pub rename-single : (img tab : List ℕ) (M S f : ℕ) → SingleOut (left img tab f (settled (rename img tab M S f)))
+rename-single img tab M S f = one-outcome img tab f (rename img tab M S f)

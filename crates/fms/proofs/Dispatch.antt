@@ -31,11 +31,11 @@ module _ (img tab : List ℕ) (M S f b : ℕ) {code : ℕ} (c : code ≡ getD ta
   does-0 k h = rw (← c, k) h
 
 module _ (img tab : List ℕ) (M S f b : ℕ) {code x y a : ℕ} {i t : List ℕ} (c : code ≡ getD tab (f + 0) 0) (e : (x ≡ a) × (y ≡ 0)) where
-  pub does-1 : code ≡ 1 → out a 0 i t ≡ left img tab f (settled (openRead img tab S f)) → out x y i t ≡ left img tab f (settled (perform img tab M S f b))
+  pub does-1 : code ≡ 1 → out a 0 i t ≡ left img tab f (settled (openRead img tab M S f)) → out x y i t ≡ left img tab f (settled (perform img tab M S f b))
   unfolding perform
   does-1 k h = rw (← c, k) (plainly e h)
 
-  pub does-2 : code ≡ 2 → out a 0 i t ≡ left img tab f (settled (openWrite img tab S f)) → out x y i t ≡ left img tab f (settled (perform img tab M S f b))
+  pub does-2 : code ≡ 2 → out a 0 i t ≡ left img tab f (settled (openWrite img tab M S f)) → out x y i t ≡ left img tab f (settled (perform img tab M S f b))
   unfolding perform
   does-2 k h = rw (← c, k) (plainly e h)
 
@@ -43,7 +43,7 @@ module _ (img tab : List ℕ) (M S f b : ℕ) {code x y a : ℕ} {i t : List ℕ
   unfolding perform
   does-4 k h = rw (← c, k) (plainly e h)
 
-  pub does-7 : code ≡ 7 → out a 0 i t ≡ left img tab f (settled (nextSlot img tab S f)) → out x y i t ≡ left img tab f (settled (perform img tab M S f b))
+  pub does-7 : code ≡ 7 → out a 0 i t ≡ left img tab f (settled (nextSlot img tab M S f)) → out x y i t ≡ left img tab f (settled (perform img tab M S f b))
   unfolding perform
   does-7 k h = rw (← c, k) (plainly e h)
 
@@ -56,7 +56,7 @@ module _ (img tab : List ℕ) (M S f b : ℕ) {code x y a : ℕ} {i t : List ℕ
   does-12 k h = rw (← c, k) (plainly e h)
 
   pub does-13 : (code ≡ 0 → ⊥) → (code ≡ 1 → ⊥) → (code ≡ 2 → ⊥) → (code ≡ 4 → ⊥) → (code ≡ 5 → ⊥) → (code ≡ 6 → ⊥) → (code ≡ 7 → ⊥) → (code ≡ 9 → ⊥) → (code ≡ 12 → ⊥)
-      → out a 0 i t ≡ left img tab f (settled (rename img tab S f)) → out x y i t ≡ left img tab f (settled (perform img tab M S f b))
+      → out a 0 i t ≡ left img tab f (settled (rename img tab M S f)) → out x y i t ≡ left img tab f (settled (perform img tab M S f b))
   unfolding perform
   does-13 h0 h1 h2 h4 h5 h6 h7 h9 h12 h =
       rw (← c, ne-eqb code 0 h0, ne-eqb code 1 h1, ne-eqb code 2 h2, ne-eqb code 4 h4, ne-eqb code 5 h5, ne-eqb code 6 h6, ne-eqb code 7 h7, ne-eqb code 9 h9, ne-eqb code 12 h12)

@@ -72,15 +72,15 @@ fn perform_by(image: &mut [u8], table: &mut [u8], last: u8, per: u8, f: u16, byt
     let code = get_in(table, f as usize, 0);
     match code {
         0 => transfer_byte(image, table, last, per, f, byte),
-        1 => plain(open_read(image, table, per, f)),
-        2 => plain(open_write(image, table, per, f)),
+        1 => plain(open_read(image, table, last, per, f)),
+        2 => plain(open_write(image, table, last, per, f)),
         4 => plain(close(image, table, last, per, f)),
         5 => plain(rewind(table, f)),
         6 => plain(open_directory(table, f)),
-        7 => plain(next_slot(image, table, per, f)),
+        7 => plain(next_slot(image, table, last, per, f)),
         9 => plain(read_sector(image, table, last, per, f)),
         12 => plain(delete(image, table, last, per, f)),
-        _ => plain(rename(image, table, per, f)),
+        _ => plain(rename(image, table, last, per, f)),
     }
 }
 

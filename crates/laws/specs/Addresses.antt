@@ -1,6 +1,6 @@
 -- Shape, addresses (track, sector) and indices of sectors, and the way between them. The only arithmetic that is not linear stands here.
 use mathlib.Core.Path.{_≡_, refl, _∙_}
-use mathlib.Core.Bool.{true}
+use mathlib.Core.Bool.{Bool, true, false}
 use mathlib.Core.List.{List}
 use Prim.Native.Nat.{ℕ, _+_, _-_, _*_, _/_, _%_, _≤_, _<_}
 use native.Mathlib.Nat.{div-add-mod', mod-lt, mul-le-mul, mul-le-mul-right, div-lt-iff-lt-mul, le-div-iff-mul-le}
@@ -8,11 +8,11 @@ use native.Mathlib.Omega.{arith}
 use lib.Arith.{digits-lt, digits-div, digits-mod}
 use lib.ListN.{length}
 use lib.Dec.{eqb, leb}
-use borrow.Author.Tests.{le-leb, eqb-true, eq-eqb}
-use Rattle.rules.specs.Bytes.{within}
-use Rattle.rules.specs.Image.{mostTracks, mostSectors, withinLimits, lastTrack, perTrack, shapeRight, trackOf, sectorOf, index, isData, dataNumber}
+use borrow.Author.Tests.{le-leb, eqb-true, eqb-false, eq-eqb}
+use Rattle.rules.specs.Bytes.{pick, within}
+use Rattle.rules.specs.Image.{mostTracks, mostSectors, withinLimits, lastTrack, perTrack, shapeRight, trackOf, sectorOf, index, addressOf, isData, dataNumber}
 use Rattle.rules.specs.Directory.{isDirectory}
-use Rattle.laws.specs.Tests.{both, within-is, within-true}
+use Rattle.laws.specs.Tests.{both, within-is, within-true, pick-cases}
 
 -- with its arguments named, for the numerals among them
 product : (a b c d : ℕ) → a ≤ b → c ≤ d → a * c ≤ b * d
@@ -96,17 +96,6 @@ pub data-true : (M S a : ℕ) → Lies 1 M 1 S a → isData M S a ≡ true
 unfolding isData
 data-true M S a l = rw (within-true 1 M (trackOf a) (l .track-low) (l .track-high)) (within-true 1 S (sectorOf a) (l .sector-low) (l .sector-high))
 
-pub directory-is : (S a : ℕ) → isDirectory S a ≡ true → Lies 0 0 5 S a
-unfolding isDirectory
-directory-is S a h =
-    let q = both (eqb (trackOf a) 0) _ h in
-    let n = within-is 5 S (sectorOf a) (q .1) in
-    record { track-low = omega arith; track-high = omega (arith, eqb-true (trackOf a) 0 (q .0)); sector-low = n .0; sector-high = n .1 }
-
-pub directory-true : (S a : ℕ) → Lies 0 0 5 S a → isDirectory S a ≡ true
-unfolding isDirectory
-directory-true S a l = rw (eq-eqb (trackOf a) 0 (omega (arith, l .track-high))) (within-true 5 S (sectorOf a) (l .sector-low) (l .sector-high))
-
 -- a data sector exists
 pub data-sector : (M S a : ℕ) → Lies 1 M 1 S a → Lies 0 M 1 S a
 data-sector M S a l = record { track-low = omega arith; track-high = l .track-high; sector-low = l .sector-low; sector-high = l .sector-high }
@@ -135,16 +124,31 @@ module _ (M S a : ℕ) (l : Lies 1 M 1 S a) where
   pub number-high : dataNumber S (index S a) < M * S
   number-high = omega (arith, data-low, data-high)
 
--- of a sector of the directory
-pub index-directory : (S a : ℕ) → Lies 0 0 5 S a → index S a ≡ sectorOf a - 1
+-- of a sector that a link of the directory may name: it is there, behind the first four
+on-first : (S a : ℕ) → trackOf a ≡ 0 → index S a ≡ sectorOf a - 1
 unfolding index
-index-directory S a l = rw (let e : trackOf a ≡ 0 = omega (arith, l .track-high) in e) (omega arith)
+on-first S a e = rw e (omega arith)
+
+pub directory-is : (M S a : ℕ) → isDirectory M S a ≡ true → Lies 0 M 1 S a × (5 ≤ S → 4 ≤ index S a)
+unfolding isDirectory
+directory-is M S a h = go (eqb (trackOf a) 0) refl h
+  where
+    go : (b : Bool) → eqb (trackOf a) 0 ≡ b → pick b (within 5 S (sectorOf a)) (isData M S a) ≡ true → Lies 0 M 1 S a × (5 ≤ S → 4 ≤ index S a)
+    go true e h =
+        let n = within-is 5 S (sectorOf a) h in
+        let t = eqb-true (trackOf a) 0 e in
+        (record { track-low = omega arith; track-high = omega arith; sector-low = omega arith; sector-high = n .1 }, λ k. omega (arith, on-first S a t, n .0))
+    go false e h = let l = data-is M S a h in (data-sector M S a l, λ k. omega (arith, data-low M S a l))
+
+pub directory-true : (M S a : ℕ) → Lies 0 M 1 S a → 4 ≤ index S a → isDirectory M S a ≡ true
+unfolding isDirectory
+directory-true M S a l h =
+    pick-cases (λ (b : Bool). b ≡ true) (eqb (trackOf a) 0) (within 5 S (sectorOf a)) (isData M S a)
+    (λ e. within-true 5 S (sectorOf a) (omega (arith, h, on-first S a (eqb-true (trackOf a) 0 e))) (l .sector-high))
+    (λ e. data-true M S a
+    (record { track-low = omega (arith, eqb-false (trackOf a) 0 e); track-high = l .track-high; sector-low = l .sector-low; sector-high = l .sector-high }))
 
 -- ---- from an index to its address
-
--- the address of the sector with the index k
-unfoldable pub addressOf : ℕ → ℕ → ℕ
-addressOf S k = 256 * (k / S) + k % S + 1
 
 -- its track, and its place on the track
 pub track-of : (u S k : ℕ) → 1 ≤ S → k < (u + 1) * S → k / S ≤ u

@@ -32,7 +32,7 @@ lengths-kept img tab f e = (length-stored (onImage e) img, length-puts (onBlock 
 
 -- those that are given back for a refusal, 13 for table or number among them
 abbrev pub refusalNumbers : List ℕ
-refusalNumbers = 1 ∷ 2 ∷ 3 ∷ 4 ∷ 5 ∷ 6 ∷ 7 ∷ 8 ∷ 9 ∷ 10 ∷ 11 ∷ 12 ∷ 13 ∷ 16 ∷ 17 ∷ 18 ∷ 21 ∷ []
+refusalNumbers = 1 ∷ 2 ∷ 3 ∷ 4 ∷ 5 ∷ 7 ∷ 8 ∷ 9 ∷ 10 ∷ 11 ∷ 12 ∷ 13 ∷ 16 ∷ 17 ∷ 18 ∷ 21 ∷ []
 
 abbrev pub answerNumbers : List ℕ
 answerNumbers = 0 ∷ refusalNumbers

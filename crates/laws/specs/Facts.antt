@@ -2,27 +2,27 @@
 use mathlib.Core.Path.{_≡_, refl}
 use mathlib.Core.Bool.{Bool, true, false}
 use mathlib.Core.List.{List, [], _∷_, _++_}
-use Prim.Native.Nat.{ℕ, _+_, _*_, _/_, _%_, _≤_, _<_}
+use Prim.Native.Nat.{ℕ, _+_, _-_, _*_, _/_, _%_, _≤_, _<_}
 use native.Mathlib.Omega.{arith}
 use lib.ListN.{length, length-append}
 use lib.Dec.{eqb, ltb}
 use Rattle.rules.specs.Bytes.{pick, part, zeros, same}
 use Rattle.rules.specs.Stores.{store}
-use Rattle.rules.specs.Image.{lastTrack, perTrack, shapeRight, index, isSector, isData, infoSector, firstFree, lastFree, freeCount}
+use Rattle.rules.specs.Image.{lastTrack, perTrack, shapeRight, index, isSector, isData, linkOf, infoSector, infoFirst, firstFree, lastFree, freeCount}
 use Rattle.rules.specs.Names.{legal}
-use Rattle.rules.specs.Directory.{member, find, vacancy, directoryRight, placeOf, slotBehind, firstSlotOf, firstOfDirectory, attributesAt, startAt, endAt, sizeAt}
+use Rattle.rules.specs.Directory.{firstOfDirectory, mostOfDirectory, firstSlotOf, member, placeOf, slotBehind, lastOf, directoryRight, directory, lastSector, slots, find, vacancy, attributesAt, startAt, endAt, sizeAt}
 use Rattle.rules.specs.Outcome.{Outcome}
 use Rattle.rules.specs.Block.{activityField, functionField, nameField, startField, positionField, recordField, indexField, placeField, newNameField, compressionField, bufferField, functionIn, activityIn, driveIn, sizeIn, positionIn, indexIn, nameIn, newNameIn, placeIn, inUse}
-use Rattle.rules.specs.Transfer.{nextToRead, loadPuts, load, reading, slotIn, linked, takeStores, takePuts, takeFor, takeSector, sent, fill, writing, transfer, shut, mark, closeWriting, close}
-use Rattle.rules.specs.Files.{opened, openRead, newEntry, openWrite, rewind, openDirectory, shown, nextSlot, readSector, writeProtected, deleteProtected, readProtected, hangStores, gone, remove, delete, rename}
+use Rattle.rules.specs.Transfer.{nextToRead, loadPuts, load, reading, onFree, offFree, slotIn, linked, newStart, newSize, takeStores, takePuts, takeFor, takeSector, sent, fill, writing, transfer, shut, mark, closeWriting, close}
+use Rattle.rules.specs.Files.{opened, openRead, newEntry, growStores, grow, openWrite, rewind, openDirectory, shown, nextSlot, readSector, writeProtected, deleteProtected, readProtected, hangStores, gone, remove, delete, rename}
 use Rattle.rules.specs.Call.{served, fits, misfit, checked, perform, asked}
 use Rattle.laws.specs.Tests.{clash, either, pick-all, pick-cases, pick-each}
 use Rattle.laws.specs.Bytes.{length-one}
 use Rattle.laws.specs.Each.{Each, each-append, each-own}
 use Rattle.laws.specs.Small.{Small, small-one}
-use Rattle.laws.specs.Addresses.{Shaped, shape-is, sector-inside, track-inside, data-is, data-high}
-use Rattle.laws.specs.Slots.{IsSlot, find-is, vacancy-is, placed-is}
-use Rattle.laws.specs.Fair.{onSlot-all, onNone-all, Run, run-one, run-two, run-six, run-zeros, run-part, run-fresh, run-place, run-append, GoodPut, GoodStore, good-put, good-store, length-linked, good-linked, Fair, fair-still, fair-done, fair-more, fair-then}
+use Rattle.laws.specs.Addresses.{Shaped, shape-is, sectors-many, sector-inside, track-inside, data-is, data-high}
+use Rattle.laws.specs.Slots.{InDirectory, directory-in, IsSlot, slot-is, OneOf, find-is, vacancy-is, placed-is}
+use Rattle.laws.specs.Fair.{onSlot-all, onNone-all, orElse-all, Run, run-one, run-two, run-six, run-zeros, run-part, run-fresh, run-place, run-append, GoodPut, GoodStore, good-put, good-store, length-linked, good-linked, Fair, fair-still, fair-done, fair-more, fair-then}
 
 -- what the call is given is below 256
 pub record Given (img tab : List ℕ) (b : ℕ) : Type 0 where
@@ -45,7 +45,7 @@ abbrev pub inOpenRead : List ℕ
 inOpenRead = 21 ∷ 5 ∷ 4 ∷ 17 ∷ 2 ∷ []
 
 abbrev pub inOpenWrite : List ℕ
-inOpenWrite = 21 ∷ 5 ∷ 3 ∷ 6 ∷ []
+inOpenWrite = 21 ∷ 5 ∷ 3 ∷ 7 ∷ 10 ∷ []
 
 abbrev pub inNextSlot : List ℕ
 inNextSlot = 5 ∷ 8 ∷ []
@@ -78,7 +78,7 @@ unfoldable pub mostStores : ℕ → ℕ → ℕ
 mostStores code act =
     pick (eqb code 0) (pick (eqb act 1) 0 4)
     (pick (eqb code 1) 0
-    (pick (eqb code 2) 1
+    (pick (eqb code 2) 4
     (pick (eqb code 4) 1
     (pick (eqb code 5) 0
     (pick (eqb code 6) 0
@@ -116,8 +116,11 @@ module _ (img tab : List ℕ) (f b : ℕ) (z : Shaped img) where
   data-inside : (a : ℕ) → isData M S a ≡ true → 256 * index S a + 256 ≤ N
   data-inside a h = sector-inside img z (index S a) (data-high M S a (data-is M S a h))
 
-  slot-inside : (o : ℕ) → IsSlot S o → 256 * (o / 256) + 256 ≤ N
-  slot-inside o s = track-inside img z (o / 256) (s .sector-high)
+  one-is : (o : ℕ) → OneOf img M S o → IsSlot M S o
+  one-is o p = slot-is img M S (z .shape .sectors) o (p .one-of)
+
+  slot-inside : (o : ℕ) → IsSlot M S o → 256 * (o / 256) + 256 ≤ N
+  slot-inside o s = sector-inside img z (o / 256) (s .sector-high)
 
   info-inside : 256 * infoSector + 256 ≤ N
   info-inside = track-inside img z infoSector (omega (arith, z .shape))
@@ -158,22 +161,34 @@ module _ (img tab : List ℕ) (f b : ℕ) (z : Shaped img) where
 
   -- ---- writing
 
-  good-take : (slot former new next last left start size : ℕ) → IsSlot S slot → (eqb former 0 ≡ false → isData M S former ≡ true) → isData M S new ≡ true
-      → Each (GoodStore G N) (takeStores S slot former new next last left start size)
+  -- the free chain without its first sector
+  good-off : GoodStore G N (offFree img S)
+  unfolding offFree
+  good-off =
+      good-store G N infoSector infoFirst 6 _
+      (pick-all (Run G 6) (eqb (freeCount img) 1) (zeros 6) _ (run-zeros G 6) (run-six G (linkOf img (index S (firstFree img))) (lastFree img) (freeCount img - 1)))
+      (omega arith) info-inside
+
+  free-fair : (es : List ℕ) (n : ℕ) (o : Outcome) → member 7 es ≡ true → member 10 es ≡ true → (isData M S (firstFree img) ≡ true → F es n o) → F es n (onFree img M S o)
+  free-fair es n o m k h =
+      pick-all (F es n) (eqb (freeCount img) 0) _ _ m (pick-cases (F es n) (isData M S (firstFree img)) _ _ h (λ e. k))
+
+  good-take : (slot : ℕ) → IsSlot M S slot → (eqb (positionIn tab f) 0 ≡ false → isData M S (positionIn tab f) ≡ true) → isData M S (firstFree img) ≡ true
+      → Each (GoodStore G N) (takeStores img tab M S f slot)
   unfolding takeStores
-  good-take slot former new next last left start size s d e = (
-    good-store G N infoSector 29 6 _ (run-six G next last left) (omega arith) info-inside,
+  good-take slot s d e = (
+    good-off,
     (
-      good-store G N (index S new) 0 256 _ (run-fresh G size) (omega arith) (data-inside new e),
-      each-append (GoodStore G N) (linked (eqb former 0) (index S former) new) _
-          (good-linked G N (eqb former 0) (index S former) new (λ n. data-inside former (d n)))
-          (good-store G N (slot / 256) (slot % 256 + 13) 6 _ (run-six G start new size) (omega (arith, s)) (slot-inside slot s), tt),
+      good-store G N (index S (firstFree img)) 0 256 _ (run-fresh G (newSize img tab M S f slot)) (omega arith) (data-inside (firstFree img) e),
+      each-append (GoodStore G N) (linked (eqb (positionIn tab f) 0) (index S (positionIn tab f)) (firstFree img)) _
+          (good-linked G N (eqb (positionIn tab f) 0) (index S (positionIn tab f)) (firstFree img) (λ n. data-inside (positionIn tab f) (d n)))
+          (good-store G N (slot / 256) (slot % 256 + 13) 6 _ (run-six G (newStart img tab M S f slot) (firstFree img) (newSize img tab M S f slot)) (omega (arith, s)) (slot-inside slot s), tt),
     ),
   )
 
-  few-take : (slot former new next last left start size : ℕ) → length (takeStores S slot former new next last left start size) ≤ 4
+  few-take : (slot : ℕ) → length (takeStores img tab M S f slot) ≤ 4
   unfolding takeStores
-  few-take slot former new next last left start size = simp length-append (omega (arith, length-linked (eqb former 0) (index S former) new))
+  few-take slot = simp length-append (omega (arith, length-linked (eqb (positionIn tab f) 0) (index S (positionIn tab f)) (firstFree img)))
 
   good-taken : (new start size : ℕ) → Each (GoodPut G) (takePuts new start size)
   unfolding takePuts
@@ -191,22 +206,21 @@ module _ (img tab : List ℕ) (f b : ℕ) (z : Shaped img) where
     ),
   )
 
-  take-fair : (slot : ℕ) → IsSlot S slot → F inWriting 4 (takeFor img tab M S f slot)
+  take-fair : (slot : ℕ) → IsSlot M S slot → F inWriting 4 (takeFor img tab M S f slot)
   unfolding takeFor member
   take-fair slot s =
       pick-cases (F inWriting 4) (pick (eqb (positionIn tab f) 0) true (isData M S (positionIn tab f))) _ _
-      (λ d. pick-all (F inWriting 4) (eqb (freeCount img) 0) _ _ refl
-      (pick-cases (F inWriting 4) (isData M S (firstFree img)) _ _
+      (λ d. free-fair inWriting 4 _ refl refl
       (λ e. pick-all (F inWriting 4) (eqb (sizeIn tab f) 65535) _ _ refl
-      (fair-done G N inWriting 4 _ _ (few-take slot _ _ _ _ _ _ _)
-      (good-take slot _ _ _ _ _ _ _ s (second _ _ d) e)
-      (good-taken _ _ _)))
-      (λ e. refl)))
+      (fair-done G N inWriting 4 _ _ (few-take slot)
+      (good-take slot s (second _ _ d) e)
+      (good-taken _ _ _))))
       (λ d. refl)
 
   sector-fair : F inWriting 4 (takeSector img tab M S f)
   unfolding takeSector member
-  sector-fair = onSlot-all (F inWriting 4) (slotIn img tab S f) 5 5 _ refl refl (λ slot e. take-fair slot (placed-is img S _ _ slot e .0 .slot))
+  sector-fair =
+      onSlot-all (F inWriting 4) (slotIn img tab M S f) 5 5 _ refl refl (λ slot e. take-fair slot (one-is slot (placed-is img M S _ slot e .0)))
 
   good-sent : (i : ℕ) → (G → i < 256) → Each (GoodPut G) (sent i b)
   unfolding sent
@@ -243,7 +257,7 @@ module _ (img tab : List ℕ) (f b : ℕ) (z : Shaped img) where
   unfolding shut
   good-shut = (good-put G activityField 1 _ (run-one G 0 (λ g. omega arith)) (omega arith), tt)
 
-  good-mark : (slot : ℕ) → IsSlot S slot → Each (GoodStore G N) (mark slot)
+  good-mark : (slot : ℕ) → IsSlot M S slot → Each (GoodStore G N) (mark slot)
   unfolding mark
   good-mark slot s = (good-store G N (slot / 256) (slot % 256) 1 _ (run-one G 255 (λ g. omega arith)) (omega (arith, s)) (slot-inside slot s), tt)
 
@@ -256,8 +270,8 @@ module _ (img tab : List ℕ) (f b : ℕ) (z : Shaped img) where
   close-fair =
       pick-all (F inClose 1) (eqb (activityIn tab f) 2) _ _
       (pick-all (F inClose 1) (eqb (positionIn tab f) 0) _ _
-      (onSlot-all (F inClose 1) (slotIn img tab S f) 5 5 _ refl refl
-      (λ slot e. fair-done G N inClose 1 _ _ (omega (arith, few-mark slot)) (good-mark slot (placed-is img S _ _ slot e .0 .slot)) good-shut))
+      (onSlot-all (F inClose 1) (slotIn img tab M S f) 5 5 _ refl refl
+      (λ slot e. fair-done G N inClose 1 _ _ (omega (arith, few-mark slot)) (good-mark slot (one-is slot (placed-is img M S _ slot e .0))) good-shut))
       (pick-all (F inClose 1) (eqb (indexIn tab f) 0) _ _ (fair-still G N inClose 1 _ good-shut)
       (pick-cases (F inClose 1) (isData M S (positionIn tab f)) _ _
       (λ d. fair-done G N inClose 1 _ _ (omega arith) (good-buffer (positionIn tab f) _ d (run-part G tab _ 252 (λ g. g .table))) good-shut)
@@ -266,7 +280,7 @@ module _ (img tab : List ℕ) (f b : ℕ) (z : Shaped img) where
 
   -- ---- open
 
-  good-opened : (act slot : ℕ) (entry : List ℕ) → act < 256 → Run G 24 entry → Each (GoodPut G) (opened act slot entry)
+  good-opened : (act slot : ℕ) (entry : List ℕ) → act < 256 → Run G 24 entry → Each (GoodPut G) (opened S act slot entry)
   unfolding opened
   good-opened act slot entry h r = (
     good-put G nameField 24 _ r (omega arith),
@@ -277,7 +291,7 @@ module _ (img tab : List ℕ) (f b : ℕ) (z : Shaped img) where
         (
           good-put G activityField 1 _ (run-one G act (λ g. h)) (omega arith),
           (
-            good-put G placeField 3 _ (run-place G slot) (omega arith),
+            good-put G placeField 3 _ (run-place G S slot) (omega arith),
             (good-put G compressionField 1 _ (run-one G 255 (λ g. omega arith)) (omega arith), tt),
           ),
         ),
@@ -288,13 +302,13 @@ module _ (img tab : List ℕ) (f b : ℕ) (z : Shaped img) where
   run-slot : (slot : ℕ) → Run G 24 (part img slot 24)
   run-slot slot = run-part G img slot 24 (λ g. g .image)
 
-  pub open-read-fair : F inOpenRead 0 (openRead img tab S f)
+  pub open-read-fair : F inOpenRead 0 (openRead img tab M S f)
   unfolding openRead member
   open-read-fair =
       pick-all (F inOpenRead 0) (legal tab (f + nameField)) _ _
-      (onSlot-all (F inOpenRead 0) (find img S (nameIn tab f)) 5 4 _ refl refl
+      (onSlot-all (F inOpenRead 0) (find img M S (nameIn tab f)) 5 4 _ refl refl
       (λ slot e. pick-all (F inOpenRead 0) (readProtected (attributesAt img slot)) _ _ refl
-      (pick-all (F inOpenRead 0) (inUse false tab (placeOf slot)) _ _ refl
+      (pick-all (F inOpenRead 0) (inUse false tab (placeOf S slot)) _ _ refl
       (fair-still G N inOpenRead 0 _ (good-opened 1 slot _ (omega arith) (run-slot slot))))))
       refl
 
@@ -304,14 +318,50 @@ module _ (img tab : List ℕ) (f b : ℕ) (z : Shaped img) where
       run-append G 11 13 _ _ (run-part G tab _ 11 (λ g. g .table))
       (run-append G 10 3 _ _ (run-zeros G 10) (run-part G tab _ 3 (λ g. g .table)))
 
-  pub open-write-fair : F inOpenWrite 1 (openWrite img tab S f)
+  -- the last sector of the directory is one of it, or the first
+  last-in : (ks : List ℕ) (k : ℕ) → InDirectory M S k → Each (InDirectory M S) ks → InDirectory M S (lastOf ks k)
+  last-in [] k h e = h
+  last-in (j ∷ ks) k h e = last-in ks j (e .0) (e .1)
+
+  last-inside : 256 * lastSector img M S + 256 ≤ N
+  last-inside =
+      let s = z .shape .sectors in
+      sector-inside img z (lastSector img M S)
+      (last-in (directory img M S) firstOfDirectory (omega arith, omega (arith, s, sectors-many M S (z .shape))) (directory-in img M S s) .1)
+
+  good-grow : isData M S (firstFree img) ≡ true → Each (GoodStore G N) (growStores img tab M S f)
+  unfolding growStores
+  good-grow e = (
+    good-off,
+    (
+      good-store G N (index S (firstFree img)) 0 256 _ (run-zeros G 256) (omega arith) (data-inside (firstFree img) e),
+      (
+        good-store G N (lastSector img M S) 0 2 _ (run-two G (firstFree img)) (omega arith) last-inside,
+        (good-store G N (index S (firstFree img)) 16 24 _ run-entry (omega arith) (data-inside (firstFree img) e), tt),
+      ),
+    ),
+  )
+
+  few-grow : length (growStores img tab M S f) ≤ 4
+  unfolding growStores
+  few-grow = omega arith
+
+  grow-fair : F inOpenWrite 4 (grow img tab M S f)
+  unfolding grow member
+  grow-fair =
+      free-fair inOpenWrite 4 _ refl refl
+      (λ e. pick-all (F inOpenWrite 4) (ltb (length (directory img M S)) (mostOfDirectory M S)) _ _
+      (fair-done G N inOpenWrite 4 _ _ few-grow (good-grow e) (good-opened 2 (firstSlotOf (index S (firstFree img))) _ (omega arith) run-entry))
+      refl)
+
+  pub open-write-fair : F inOpenWrite 4 (openWrite img tab M S f)
   unfolding openWrite member
   open-write-fair =
-      pick-all (F inOpenWrite 1) (legal tab (f + nameField)) _ _
-      (onNone-all (F inOpenWrite 1) (find img S (nameIn tab f)) 5 3 _ refl refl
-      (onSlot-all (F inOpenWrite 1) (vacancy img S) 5 6 _ refl refl
-      (λ slot e. let s = vacancy-is img S slot e .0 .slot in
-      fair-done G N inOpenWrite 1 _ _ (omega arith)
+      pick-all (F inOpenWrite 4) (legal tab (f + nameField)) _ _
+      (onNone-all (F inOpenWrite 4) (find img M S (nameIn tab f)) 5 3 _ refl refl
+      (orElse-all (F inOpenWrite 4) (vacancy img M S) 5 _ _ refl (λ e. grow-fair)
+      (λ slot e. let s = one-is slot (vacancy-is img M S slot e .0) in
+      fair-done G N inOpenWrite 4 _ _ (omega arith)
       (good-store G N (slot / 256) (slot % 256) 24 _ run-entry (omega (arith, s)) (slot-inside slot s), tt)
       (good-opened 2 slot _ (omega arith) run-entry))))
       refl
@@ -335,19 +385,19 @@ module _ (img tab : List ℕ) (f b : ℕ) (z : Shaped img) where
       fair-still G N [] 0 _
       (good-put G activityField 1 _ (run-one G 16 (λ g. omega arith)) (omega arith), (good-put G placeField 3 _ (run-zeros G 3) (omega arith), tt))
 
-  shown-fair : (slot : ℕ) → F inNextSlot 0 (shown img slot)
+  shown-fair : (slot : ℕ) → F inNextSlot 0 (shown img S slot)
   unfolding shown
   shown-fair slot =
       fair-still G N inNextSlot 0 _
-      (good-put G placeField 3 _ (run-place G slot) (omega arith), (good-put G nameField 24 _ (run-slot slot) (omega arith), tt))
+      (good-put G placeField 3 _ (run-place G S slot) (omega arith), (good-put G nameField 24 _ (run-slot slot) (omega arith), tt))
 
-  pub next-slot-fair : F inNextSlot 0 (nextSlot img tab S f)
+  pub next-slot-fair : F inNextSlot 0 (nextSlot img tab M S f)
   unfolding nextSlot member
   next-slot-fair =
       pick-all (F inNextSlot 0) (same (placeIn tab f) (zeros 3)) _ _
-      (pick-all (F inNextSlot 0) (directoryRight img S) _ _ (shown-fair (firstSlotOf firstOfDirectory)) refl)
-      (onSlot-all (F inNextSlot 0) (slotIn img tab S f) 5 5 _ refl refl
-      (λ slot e. onSlot-all (F inNextSlot 0) (slotBehind img S slot) 5 8 _ refl refl (λ next d. shown-fair next)))
+      (pick-all (F inNextSlot 0) (directoryRight img M S) _ _ (shown-fair (firstSlotOf firstOfDirectory)) refl)
+      (onSlot-all (F inNextSlot 0) (slotIn img tab M S f) 5 5 _ refl refl
+      (λ slot e. onSlot-all (F inNextSlot 0) (slotBehind slot (slots img M S)) 5 8 _ refl refl (λ next d. shown-fair next)))
 
   pub read-sector-fair : F inReadSector 0 (readSector img tab M S f)
   unfolding readSector member
@@ -363,7 +413,7 @@ module _ (img tab : List ℕ) (f b : ℕ) (z : Shaped img) where
   good-gone slot =
       (good-put G nameField 24 _ (run-append G 1 23 _ _ (run-one G 255 (λ g. omega arith)) (run-part G img _ 23 (λ g. g .image))) (omega arith), tt)
 
-  good-hang : (slot count first last start end size : ℕ) → IsSlot S slot → (eqb count 0 ≡ false → isData M S last ≡ true)
+  good-hang : (slot count first last start end size : ℕ) → IsSlot M S slot → (eqb count 0 ≡ false → isData M S last ≡ true)
       → Each (GoodStore G N) (hangStores S slot count first last start end size)
   unfolding hangStores
   good-hang slot count first last start end size s d =
@@ -376,7 +426,7 @@ module _ (img tab : List ℕ) (f b : ℕ) (z : Shaped img) where
   few-hang slot count first last start end size =
       simp length-append (omega (arith, length-linked (eqb count 0) (index S last) start, few-mark slot))
 
-  remove-fair : (slot : ℕ) → IsSlot S slot → F inDelete 3 (remove img M S slot)
+  remove-fair : (slot : ℕ) → IsSlot M S slot → F inDelete 3 (remove img M S slot)
   unfolding remove member
   remove-fair slot s =
       pick-all (F inDelete 3) (eqb (sizeAt img slot) 0) _ _
@@ -394,24 +444,24 @@ module _ (img tab : List ℕ) (f b : ℕ) (z : Shaped img) where
   unfolding delete member
   delete-fair =
       pick-all (F inDelete 3) (legal tab (f + nameField)) _ _
-      (onSlot-all (F inDelete 3) (find img S (nameIn tab f)) 5 4 _ refl refl
-      (λ slot e. pick-all (F inDelete 3) (inUse true tab (placeOf slot)) _ _ refl
+      (onSlot-all (F inDelete 3) (find img M S (nameIn tab f)) 5 4 _ refl refl
+      (λ slot e. pick-all (F inDelete 3) (inUse true tab (placeOf S slot)) _ _ refl
       (pick-all (F inDelete 3) (deleteProtected (attributesAt img slot)) _ _ refl
       (pick-all (F inDelete 3) (writeProtected (attributesAt img slot)) _ _ refl
-      (remove-fair slot (find-is img S _ slot e .0 .slot))))))
+      (remove-fair slot (one-is slot (find-is img M S _ slot e .0)))))))
       refl
 
-  pub rename-fair : F inRename 1 (rename img tab S f)
+  pub rename-fair : F inRename 1 (rename img tab M S f)
   unfolding rename member
   rename-fair =
       pick-all (F inRename 1) (legal tab (f + nameField)) _ _
       (pick-all (F inRename 1) (legal tab (f + newNameField)) _ _
-      (onSlot-all (F inRename 1) (find img S (nameIn tab f)) 5 4 _ refl refl
-      (λ slot e. let s = find-is img S _ slot e .0 .slot in
+      (onSlot-all (F inRename 1) (find img M S (nameIn tab f)) 5 4 _ refl refl
+      (λ slot e. let s = one-is slot (find-is img M S _ slot e .0) in
       let r = run-part G tab (f + newNameField) 11 (λ g. g .table) in
-      pick-all (F inRename 1) (inUse true tab (placeOf slot)) _ _ refl
+      pick-all (F inRename 1) (inUse true tab (placeOf S slot)) _ _ refl
       (pick-all (F inRename 1) (writeProtected (attributesAt img slot)) _ _ refl
-      (onNone-all (F inRename 1) (find img S (newNameIn tab f)) 5 3 _ refl refl
+      (onNone-all (F inRename 1) (find img M S (newNameIn tab f)) 5 3 _ refl refl
       (fair-done G N inRename 1 _ _ (omega arith)
       (good-store G N (slot / 256) (slot % 256) 11 _ r (omega (arith, s)) (slot-inside slot s), tt)
       (good-put G nameField 11 _ r (omega arith), tt))))))

@@ -1,37 +1,25 @@
 -- The directory: where its sectors and slots lie, what a scan finds, places and slots.
-use mathlib.Core.Path.{_≡_, refl, sym, ap, _∙_}
+use mathlib.Core.Path.{_≡_, refl, sym, ap, _∙_, subst}
 use mathlib.Core.Bool.{Bool, true, false}
-use mathlib.Core.List.{List, [], _∷_}
+use mathlib.Core.List.{List, [], _∷_, _++_}
 use Prim.Native.Nat.{ℕ, zero, suc, _+_, _-_, _*_, _/_, _%_, _≤_, _<_}
 use native.Mathlib.Omega.{arith}
 use lib.ListN.{length, getD, length-append}
 use lib.Dec.{eqb}
 use borrow.Author.Tests.{eqb-true, eq-eqb}
-use Rattle.rules.specs.Bytes.{pick, within, part, same}
-use Rattle.rules.specs.Image.{index, linkOf}
-use Rattle.rules.specs.Directory.{isDirectory, stepTo, nextOf, onNext, mostOfDirectory, firstOfDirectory, directoryRight, sectorsFrom, directory, slotsAt, firstSlotOf, slotsOf, slots, live, scan, named, vacant, inDirectory, find, vacancy, member, isDisplacement, placed, placeOf}
+use Rattle.rules.specs.Bytes.{pick, within, part, one, two, same}
+use Rattle.rules.specs.Image.{index, addressOf, linkOf}
+use Rattle.rules.specs.Directory.{isDirectory, stepTo, onNext, mostOfDirectory, firstOfDirectory, slotsAt, firstSlotOf, slotsOf, live, member, scan, named, vacant, placeOf, nextOf, directoryRight, sectorsFrom, directory, slots, inDirectory, find, vacancy, placed}
 use Rattle.rules.specs.declared.Next.{Next}
 use Rattle.rules.specs.declared.Next.the-variants.{End, To, Astray}
 use Rattle.rules.specs.declared.Lookup.{Lookup}
 use Rattle.rules.specs.declared.Lookup.the-variants.{At, Missing, Broken}
 use Rattle.laws.specs.Tests.{clash, never, both, either, within-is, within-true, pick-cases}
 use Rattle.laws.specs.Each.{Each, each-append, each-so, each-member, member-here, member-there, member-left, member-right}
-use Rattle.laws.specs.Addresses.{Lies, directory-is, directory-true, index-directory}
+use Rattle.laws.specs.Bytes.{same-refl, same-eq}
+use Rattle.laws.specs.Addresses.{Shape, data-few, index-high, directory-is, address-small, index-address}
 
 -- ---- sectors of the directory
-
--- on track 0, from the fifth sector on
-abbrev pub InDirectory : ℕ → ℕ → Type 0
-InDirectory S k = (4 ≤ k) × (k < S)
-
-pub step-in : (S a k : ℕ) → stepTo S a ≡ To k → InDirectory S k
-unfolding stepTo
-step-in S a k =
-    pick-cases (λ (n : Next). n ≡ To k → InDirectory S k) (eqb a 0) End _
-    (λ e h. clash (cc))
-    (λ e. pick-cases (λ (n : Next). n ≡ To k → InDirectory S k) (isDirectory S a) (To (index S a)) Astray
-    (λ d h. let l = directory-is S a d in let q : index S a ≡ k = cc in let i = index-directory S a l in (omega (arith, l), omega (arith, l)))
-    (λ d h. clash (cc)))
 
 -- what holds of the three ways on
 pub onNext-all : {A : Type 0} (P : A → Type 0) (n : Next) (e w : A) (f : ℕ → A) → P e → P w → ((k : ℕ) → n ≡ To k → P (f k)) → P (onNext n e w f)
@@ -39,29 +27,82 @@ onNext-all P End e w f p q r = p
 onNext-all P (To k) e w f p q r = r k refl
 onNext-all P Astray e w f p q r = q
 
-sectors-in : (img : List ℕ) (S n k : ℕ) → InDirectory S k → Each (InDirectory S) (sectorsFrom img S n k)
+-- where a link of the directory leads
+step-in : (M S a k : ℕ) → stepTo M S a ≡ To k → (isDirectory M S a ≡ true) × (index S a ≡ k)
+unfolding stepTo
+step-in M S a k =
+    pick-cases (λ (n : Next). n ≡ To k → (isDirectory M S a ≡ true) × (index S a ≡ k)) (eqb a 0) End _
+    (λ e h. clash (cc))
+    (λ e. pick-cases (λ (n : Next). n ≡ To k → (isDirectory M S a ≡ true) × (index S a ≡ k)) (isDirectory M S a) (To (index S a)) Astray
+    (λ d h. (d, cc))
+    (λ d h. clash (cc)))
+
+-- what holds of the first sector and of each that a link may name holds of each
+sectors-each : (P : ℕ → Type 0) (img : List ℕ) (M S : ℕ) → ((a : ℕ) → isDirectory M S a ≡ true → P (index S a)) → (n k : ℕ) → P k
+    → Each P (sectorsFrom img M S n k)
 unfolding sectorsFrom
-sectors-in img S zero k h = tt
-sectors-in img S (suc n) k h = (
+sectors-each P img M S g zero k h = tt
+sectors-each P img M S g (suc n) k h = (
   h,
-  onNext-all (Each (InDirectory S)) (nextOf img S k) [] [] (λ j. sectorsFrom img S n j) tt tt
-      (λ j e. sectors-in img S n j (step-in S (linkOf img k) j e)),
+  onNext-all (Each P) (nextOf img M S k) [] [] (λ j. sectorsFrom img M S n j) tt tt
+      (λ j e. let q = step-in M S (linkOf img k) j e in sectors-each P img M S g n j (subst P (q .1) (g (linkOf img k) (q .0)))),
 )
 
-pub directory-in : (img : List ℕ) (S : ℕ) → Each (InDirectory S) (directory img S)
-unfolding directory sectorsFrom
-directory-in img S = go (mostOfDirectory S) refl
+-- in the image, behind the first four
+abbrev pub InDirectory : ℕ → ℕ → ℕ → Type 0
+InDirectory M S k = (4 ≤ k) × (k < (M + 1) * S)
+
+pub directory-in : (img : List ℕ) (M S : ℕ) → 5 ≤ S → Each (InDirectory M S) (directory img M S)
+unfolding directory
+directory-in img M S s =
+    sectors-each (InDirectory M S) img M S
+    (λ a h. let d = directory-is M S a h in (d .1 s, index-high 0 M S a (d .0)))
+    (mostOfDirectory M S) firstOfDirectory (omega arith, first-high)
   where
-    go : (n : ℕ) → mostOfDirectory S ≡ n → Each (InDirectory S) (sectorsFrom img S n firstOfDirectory)
+    first-high : 4 < (M + 1) * S
+    first-high = let e : (M + 1) * S ≡ M * S + S = omega arith in omega (arith, e)
+
+-- with an address of two bytes: so of the first, if there is any
+abbrev pub Addressed : ℕ → ℕ → Type 0
+Addressed S k = (1 ≤ S) × (k < (255 + 1) * S)
+
+directory-addressed : (img : List ℕ) (M S : ℕ) → Each (Addressed S) (directory img M S)
+unfolding directory sectorsFrom
+directory-addressed img M S = go (mostOfDirectory M S) refl
+  where
+    link : (a : ℕ) → isDirectory M S a ≡ true → Addressed S (index S a)
+    link a h =
+        let l = directory-is M S a h .0 in (
+          omega (arith, l .sector-low, l .sector-high),
+          index-high 0 255 S a (record { track-low = omega arith; track-high = omega arith; sector-low = l .sector-low; sector-high = l .sector-high }),
+        )
+
+    go : (n : ℕ) → mostOfDirectory M S ≡ n → Each (Addressed S) (sectorsFrom img M S n firstOfDirectory)
     go zero e = tt
-    go (suc n) e = sectors-in img S (suc n) firstOfDirectory (omega arith, omega arith)
+    go (suc n) e = let p = some S e in sectors-each (Addressed S) img M S link (suc n) firstOfDirectory (p, omega arith)
+      where
+        some : (S : ℕ) → S - 4 + M * S ≡ suc n → 1 ≤ S
+        some zero e = absurd (omega arith)
+        some (suc S) e = omega arith
+
+-- there and back
+module _ (S k : ℕ) (some : S < 256) (h : Addressed S k) where
+  pub place-small : addressOf S k < 65536
+  place-small = address-small 0 255 S k (omega arith) (h .1) (omega arith) (h .0) some
+
+  pub place-index : index S (addressOf S k) ≡ k
+  place-index = index-address 0 255 S k (omega arith) (h .1) (omega arith) (h .0) some
 
 -- ---- slots
 
+-- "at 16, 40, .. 232"
+unfoldable pub isDisplacement : ℕ → Bool
+isDisplacement d = pick (within 16 232 d) (eqb ((d - 16) % 24) 0) false
+
 -- where a slot begins: in the sector o / 256 of the directory, at the displacement o % 256
-pub record IsSlot (S o : ℕ) : Type 0 where
+pub record IsSlot (M S o : ℕ) : Type 0 where
   pub sector-low : 4 ≤ o / 256
-  pub sector-high : o / 256 < S
+  pub sector-high : o / 256 < (M + 1) * S
   pub low : 16 ≤ o % 256
   pub high : o % 256 ≤ 232
   pub step : (o % 256 - 16) % 24 ≡ 0
@@ -73,36 +114,37 @@ displacement-is d h =
     let w = within-is 16 232 d (q .0) in
     (w .0, w .1, eqb-true _ 0 (q .1))
 
-pub displacement-true : (S o : ℕ) → IsSlot S o → isDisplacement (o % 256) ≡ true
+-- the i-th slot of a sector
+pub row-true : (i : ℕ) → i < 10 → isDisplacement (16 + 24 * i) ≡ true
 unfolding isDisplacement
-displacement-true S o s = rw (within-true 16 232 (o % 256) (s .low) (s .high)) (eq-eqb _ 0 (s .step))
+row-true i h = rw (within-true 16 232 (16 + 24 * i) (omega arith) (omega arith)) (eq-eqb ((16 + 24 * i - 16) % 24) 0 (omega arith))
 
--- a slot from its sector and displacement
-pub slot-made : (S k d : ℕ) → InDirectory S k → isDisplacement d ≡ true → IsSlot S (256 * k + d)
-slot-made S k d h e =
-    let w = displacement-is d e in
-    let q : (256 * k + d) / 256 ≡ k = omega arith in
-    let r : (256 * k + d) % 256 ≡ d = omega arith in
-    record { sector-low = omega arith; sector-high = omega arith; low = omega arith; high = omega arith; step = rw r (w .2) }
+-- a slot of a sector of these
+abbrev pub Row : (ℕ → Type 0) → ℕ → Type 0
+Row P o = P (o / 256) × (isDisplacement (o % 256) ≡ true)
 
-slots-at : (S k i n at : ℕ) → InDirectory S k → i + n ≤ 10 → at ≡ 256 * k + (16 + 24 * i) → Each (IsSlot S) (slotsAt at n)
-unfolding slotsAt isDisplacement
-slots-at S k i zero at h l e = tt
-slots-at S k i (suc n) at h l e =
-    let d : isDisplacement (16 + 24 * i) ≡ true = rw (within-true 16 232 (16 + 24 * i) (omega arith) (omega arith)) (eq-eqb ((16 + 24 * i - 16) % 24) 0 (omega arith)) in
-    (rw e (slot-made S k (16 + 24 * i) h d), slots-at S k (i + 1) n (at + 24) h (omega arith) (omega arith))
+rows-at : (P : ℕ → Type 0) (k i n at : ℕ) → P k → i + n ≤ 10 → at ≡ 256 * k + (16 + 24 * i) → Each (Row P) (slotsAt at n)
+unfolding slotsAt
+rows-at P k i zero at h l e = tt
+rows-at P k i (suc n) at h l e =
+    let q : at / 256 ≡ k = omega arith in
+    let r : at % 256 ≡ 16 + 24 * i = omega arith in
+    ((subst P (sym q) h, rw r (row-true i (omega arith))), rows-at P k (i + 1) n (at + 24) h (omega arith) (omega arith))
 
-slots-of : (S : ℕ) (ks : List ℕ) → Each (InDirectory S) ks → Each (IsSlot S) (slotsOf ks)
+pub rows-of : (P : ℕ → Type 0) (ks : List ℕ) → Each P ks → Each (Row P) (slotsOf ks)
 unfolding slotsOf
-slots-of S [] h = tt
-slots-of S (k ∷ ks) h =
-    each-append (IsSlot S) (slotsAt (firstSlotOf k) 10) (slotsOf ks) (slots-at S k 0 10 (firstSlotOf k) (h .0) (omega arith) (omega arith)) (slots-of S ks (h .1))
+rows-of P [] h = tt
+rows-of P (k ∷ ks) h =
+    each-append (Row P) (slotsAt (firstSlotOf k) 10) (slotsOf ks) (rows-at P k 0 10 (firstSlotOf k) (h .0) (omega arith) (omega arith)) (rows-of P ks (h .1))
 
-pub slots-are : (img : List ℕ) (S : ℕ) → Each (IsSlot S) (slots img S)
-slots-are img S = slots-of S (directory img S) (directory-in img S)
+slot-made : (M S o : ℕ) → Row (InDirectory M S) o → IsSlot M S o
+slot-made M S o h =
+    let w = displacement-is (o % 256) (h .1) in
+    record { sector-low = h .0 .0; sector-high = h .0 .1; low = w .0; high = w .1; step = w .2 }
 
-pub slot-is : (img : List ℕ) (S o : ℕ) → member o (slots img S) ≡ true → IsSlot S o
-slot-is img S o h = each-member (IsSlot S) (slots img S) o (slots-are img S) h
+pub slot-is : (img : List ℕ) (M S : ℕ) → 5 ≤ S → (o : ℕ) → member o (slots img M S) ≡ true → IsSlot M S o
+slot-is img M S s o h =
+    slot-made M S o (each-member (Row (InDirectory M S)) (slots img M S) o (rows-of (InDirectory M S) (directory img M S) (directory-in img M S s)) h)
 
 -- ---- how many there are
 
@@ -117,6 +159,22 @@ length-slots [] = refl
 length-slots (k ∷ ks) =
     omega (arith, length-append (slotsAt (firstSlotOf k) 10) (slotsOf ks), length-slotsAt (firstSlotOf k) 10, length-slots ks)
 
+length-sectors : (img : List ℕ) (M S n k : ℕ) → length (sectorsFrom img M S n k) ≤ n
+unfolding sectorsFrom
+length-sectors img M S zero k = omega arith
+length-sectors img M S (suc n) k =
+    let q : length (onNext (nextOf img M S k) [] [] (λ j. sectorsFrom img M S n j)) ≤ n =
+    onNext-all (λ (l : List ℕ). length l ≤ n) (nextOf img M S k) [] [] (λ j. sectorsFrom img M S n j) (omega arith) (omega arith) (λ j e. length-sectors img M S n j) in
+    omega (arith, q)
+
+-- whatever the image holds: a slot's number fits two bytes
+pub few-slots : (img : List ℕ) (M S : ℕ) → length (slots img M S) ≤ (S - 4 + M * S) * 10
+unfolding directory
+few-slots img M S = omega (arith, length-slots (directory img M S), length-sectors img M S (mostOfDirectory M S) firstOfDirectory)
+
+pub numbers-fit : (img : List ℕ) (M S : ℕ) → Shape M S → length (slots img M S) < 65534
+numbers-fit img M S z = omega (arith, few-slots img M S, data-few M S z, z .most-sectors)
+
 -- ---- scans
 
 -- what is found is one of the slots, and wanted
@@ -129,6 +187,16 @@ scan-found wanted (p ∷ os) o h = go (wanted p) refl h (λ k. scan-found wanted
         → (member o (p ∷ os) ≡ true) × (wanted o ≡ true)
     go true e k rest = let q : p ≡ o = cc in (rw (← q) (member-here p os), ap wanted (sym q) ∙ e)
     go false e k rest = let r = rest k in (member-there o p os (r .0), r .1)
+
+-- what is not found is missing
+scan-none : (wanted : ℕ → Bool) (os : List ℕ) → ((o : ℕ) → scan wanted os ≡ At o → ⊥) → scan wanted os ≡ Missing
+unfolding scan
+scan-none wanted [] h = refl
+scan-none wanted (p ∷ os) h = go (wanted p) refl (λ k. scan-none wanted os k)
+  where
+    go : (w : Bool) → wanted p ≡ w → (((o : ℕ) → scan wanted os ≡ At o → ⊥) → scan wanted os ≡ Missing) → pick w (At p) (scan wanted os) ≡ Missing
+    go true e ih = absurd (h p (rw e refl))
+    go false e ih = ih (λ o k. h o (rw e k))
 
 -- ---- a slot with a name
 
@@ -144,24 +212,27 @@ module _ (img name : List ℕ) (slot : ℕ) {l : Bool} (e : l ≡ live img slot)
 -- ---- lookups
 
 -- a slot of a directory that is right
-pub record OneOf (img : List ℕ) (S o : ℕ) : Type 0 where
-  pub right : directoryRight img S ≡ true
-  pub one-of : member o (slots img S) ≡ true
-  pub slot : IsSlot S o
+pub record OneOf (img : List ℕ) (M S o : ℕ) : Type 0 where
+  pub right : directoryRight img M S ≡ true
+  pub one-of : member o (slots img M S) ≡ true
 
-in-directory-is : (img : List ℕ) (S : ℕ) (wanted : ℕ → Bool) (o : ℕ) → inDirectory img S wanted ≡ At o → OneOf img S o × (wanted o ≡ true)
-in-directory-is img S wanted o =
-    pick-cases (λ (l : Lookup). l ≡ At o → OneOf img S o × (wanted o ≡ true)) (directoryRight img S) (scan wanted (slots img S)) Broken
-    (λ e h. let f = scan-found wanted (slots img S) o h in (record { right = e; one-of = f .0; slot = slot-is img S o (f .0) }, f .1))
+in-directory-is : (img : List ℕ) (M S : ℕ) (wanted : ℕ → Bool) (o : ℕ) → inDirectory img M S wanted ≡ At o → OneOf img M S o × (wanted o ≡ true)
+in-directory-is img M S wanted o =
+    pick-cases (λ (l : Lookup). l ≡ At o → OneOf img M S o × (wanted o ≡ true)) (directoryRight img M S) (scan wanted (slots img M S)) Broken
+    (λ e h. let f = scan-found wanted (slots img M S) o h in (record { right = e; one-of = f .0 }, f .1))
     (λ e h. clash (cc))
 
-pub find-is : (img : List ℕ) (S : ℕ) (name : List ℕ) (o : ℕ) → find img S name ≡ At o → OneOf img S o × (named img name o ≡ true)
+pub find-is : (img : List ℕ) (M S : ℕ) (name : List ℕ) (o : ℕ) → find img M S name ≡ At o → OneOf img M S o × (named img name o ≡ true)
 unfolding find
-find-is img S name o h = in-directory-is img S (named img name) o h
+find-is img M S name o h = in-directory-is img M S (named img name) o h
 
-pub vacancy-is : (img : List ℕ) (S o : ℕ) → vacancy img S ≡ At o → OneOf img S o × (vacant img o ≡ true)
+pub vacancy-is : (img : List ℕ) (M S o : ℕ) → vacancy img M S ≡ At o → OneOf img M S o × (vacant img o ≡ true)
 unfolding vacancy
-vacancy-is img S o h = in-directory-is img S (vacant img) o h
+vacancy-is img M S o h = in-directory-is img M S (vacant img) o h
+
+pub placed-is : (img : List ℕ) (M S : ℕ) (place : List ℕ) (o : ℕ) → placed img M S place ≡ At o → OneOf img M S o × (placeOf S o ≡ place)
+unfolding placed
+placed-is img M S place o h = let f = in-directory-is img M S (λ slot. same (placeOf S slot) place) o h in (f .0, same-eq (placeOf S o) place (f .1))
 
 -- ---- places
 
@@ -184,53 +255,78 @@ slots-member (j ∷ ks) k d h e =
     (rw (let r : 256 * k + d ≡ firstSlotOf j + 24 * ((d - 16) / 24) = omega (arith, eqb-true j k q) in r) (slots-at-member (firstSlotOf j) ((d - 16) / 24) 10 (omega arith))))
     (λ q. member-right (256 * k + d) (slotsAt (firstSlotOf j) 10) (slotsOf ks) (slots-member ks k d q e))
 
--- the sector of a slot of the directory is one of its sectors
-pub slot-sector : (img : List ℕ) (S o : ℕ) → member o (slots img S) ≡ true → member (o / 256) (directory img S) ≡ true
-unfolding slotsAt slotsOf
-slot-sector img S o h = each-member (λ (p : ℕ). member (p / 256) (directory img S) ≡ true) (slots img S) o (all (directory img S)) h
-  where
-    sector : (ks : List ℕ) (k i n at : ℕ) → i + n ≤ 10 → at ≡ 256 * k + (16 + 24 * i) → member k ks ≡ true → Each (λ (p : ℕ). member (p / 256) ks ≡ true) (slotsAt at n)
-    sector ks k i zero at l e m = tt
-    sector ks k i (suc n) at l e m = (rw (let q : at / 256 ≡ k = omega arith in q) m, sector ks k (i + 1) n (at + 24) (omega arith) (omega arith) m)
-
-    all : (ks : List ℕ) → Each (λ (p : ℕ). member (p / 256) ks ≡ true) (slotsOf ks)
-    all [] = tt
-    all (k ∷ ks) =
-        each-append (λ (p : ℕ). member (p / 256) (k ∷ ks) ≡ true) (slotsAt (firstSlotOf k) 10) (slotsOf ks)
-        (sector (k ∷ ks) k 0 10 (firstSlotOf k) (omega arith) (omega arith) (member-here k ks))
-        (each-so (λ (p : ℕ). member (p / 256) ks ≡ true) (λ (p : ℕ). member (p / 256) (k ∷ ks) ≡ true) (slotsOf ks) (λ p m. member-there (p / 256) k ks m) (all ks))
-
--- the slot that a place names, and the place of a slot
-pub placed-is : (img : List ℕ) (S a d o : ℕ) → placed img S a d ≡ At o → OneOf img S o × (o ≡ 256 * index S a + d)
-unfolding placed
-placed-is img S a d o =
-    pick-cases P (directoryRight img S) _ Broken
-    (λ r. pick-cases P (isDirectory S a) _ Missing
-    (λ i. pick-cases P (member (index S a) (directory img S)) _ Missing
-    (λ m. pick-cases P (isDisplacement d) (At (256 * index S a + d)) Missing
-    (λ e h. let q : 256 * index S a + d ≡ o = cc in
-    let w : member o (slots img S) ≡ true = rw (← q) (slots-member (directory img S) (index S a) d m e) in
-    (record { right = r; one-of = w; slot = slot-is img S o w }, sym q))
-    (λ e h. clash (cc)))
-    (λ m h. clash (cc)))
-    (λ i h. clash (cc)))
-    (λ r h. clash (cc))
-  where
-    P : Lookup → Type 0
-    P l = l ≡ At o → OneOf img S o × (o ≡ 256 * index S a + d)
-
-pub placed-slot : (img : List ℕ) (S o : ℕ) → S < 256 → OneOf img S o → placed img S (o / 256 + 1) (o % 256) ≡ At o
-unfolding placed
-placed-slot img S o few p =
-    let s = p .slot in
-    let l : Lies 0 0 5 S (o / 256 + 1) = record { track-low = omega arith; track-high = omega (arith, s); sector-low = omega (arith, s); sector-high = omega (arith, s) } in
-    let k : index S (o / 256 + 1) ≡ o / 256 = index-directory S (o / 256 + 1) l ∙ omega (arith, s) in
-    rw (p .right, directory-true S (o / 256 + 1) l, k, slot-sector img S o (p .one-of), displacement-true S o s) (ap At (omega arith))
+-- what the place of a slot says
+module _ (S o : ℕ) (some : S < 256) (h : Addressed S (o / 256)) (a d : ℕ) (ha : a < 65536) (hd : d < 256) where
+  pub place-says : placeOf S o ≡ two a ++ one d → (addressOf S (o / 256) ≡ a) × (o % 256 ≡ d)
+  unfolding placeOf two one
+  place-says e =
+      let t : addressOf S (o / 256) / 256 % 256 ≡ a / 256 % 256 = ap (λ (l : List ℕ). getD l 0 0) e in
+      let s : addressOf S (o / 256) % 256 ≡ a % 256 = ap (λ (l : List ℕ). getD l 1 0) e in
+      let r : o % 256 ≡ d = ap (λ (l : List ℕ). getD l 2 0) e in
+      (omega (arith, place-small S (o / 256) some h, t, s), r)
 
 -- a slot is known by its place
-pub place-inj : (S o p : ℕ) → S < 256 → IsSlot S o → IsSlot S p → placeOf o ≡ placeOf p → o ≡ p
+pub place-inj : (S o p : ℕ) → S < 256 → Addressed S (o / 256) → Addressed S (p / 256) → placeOf S o ≡ placeOf S p → o ≡ p
 unfolding placeOf
-place-inj S o p few s t e =
-    let a : (o / 256 + 1) % 256 ≡ (p / 256 + 1) % 256 = ap (λ (l : List ℕ). getD l 1 0) e in
-    let b : o % 256 ≡ p % 256 = ap (λ (l : List ℕ). getD l 2 0) e in
-    omega arith
+place-inj S o p some s t e =
+    let q = place-says S o some s (addressOf S (p / 256)) (p % 256) (place-small S (p / 256) some t) (omega arith) e in
+    let k : o / 256 ≡ p / 256 = sym (place-index S (o / 256) some s) ∙ ap (index S) (q .0) ∙ place-index S (p / 256) some t in
+    omega (arith, k, q .1)
+
+-- of slots with places of their own, the one whose place it is
+scan-place : (S : ℕ) (os : List ℕ) → S < 256 → Each (λ (o : ℕ). Addressed S (o / 256)) os → (o : ℕ) → member o os ≡ true
+    → scan (λ slot. same (placeOf S slot) (placeOf S o)) os ≡ At o
+unfolding scan member
+scan-place S [] some h o m = absurd (never m)
+scan-place S (p ∷ os) some h o m =
+    pick-cases (λ (l : Lookup). l ≡ At o) (same (placeOf S p) (placeOf S o)) (At p) _
+    (λ e. ap At (place-inj S p o some (h .0) (each-member (λ (x : ℕ). Addressed S (x / 256)) (p ∷ os) o h m) (same-eq (placeOf S p) (placeOf S o) e)))
+    (λ e. scan-place S os some (h .1) o
+    (either (eqb p o) (member o os) m
+    (λ q. absurd (never (sym e ∙ ap (λ (x : ℕ). same (placeOf S x) (placeOf S o)) (eqb-true p o q) ∙ same-refl (placeOf S o))))
+    (λ k. k)))
+
+module _ (img : List ℕ) (M S : ℕ) (some : S < 256) where
+  rows : Each (Row (λ (k : ℕ). Addressed S k × (member k (directory img M S) ≡ true))) (slots img M S)
+  rows = rows-of _ (directory img M S) (go (directory img M S) (directory-addressed img M S))
+    where
+      go : (ks : List ℕ) → Each (Addressed S) ks → Each (λ (k : ℕ). Addressed S k × (member k ks ≡ true)) ks
+      go [] h = tt
+      go (k ∷ ks) h = (
+        (h .0, member-here k ks),
+        each-so (λ (j : ℕ). Addressed S j × (member j ks ≡ true)) (λ (j : ℕ). Addressed S j × (member j (k ∷ ks) ≡ true)) ks
+            (λ j p. (p .0, member-there j k ks (p .1))) (go ks (h .1)),
+      )
+
+  -- the place of a slot of the directory names that slot
+  pub placed-slot : (o : ℕ) → OneOf img M S o → placed img M S (placeOf S o) ≡ At o
+  unfolding placed
+  placed-slot o p =
+      rw (p .right)
+      (scan-place S (slots img M S) some (each-so _ (λ (x : ℕ). Addressed S (x / 256)) (slots img M S) (λ x r. r .0 .0) rows) o (p .one-of))
+
+  -- by address and displacement: the sector is one of the directory's, the address is its own, the displacement is one of the ten
+  module _ (a d : ℕ) (ha : a < 65536) (hd : d < 256) where
+    pub placed-at : directoryRight img M S ≡ true → member (index S a) (directory img M S) ≡ true → addressOf S (index S a) ≡ a → isDisplacement d ≡ true
+        → placed img M S (two a ++ one d) ≡ At (256 * index S a + d)
+    unfolding placeOf
+    placed-at r m e t =
+        let q : (256 * index S a + d) / 256 ≡ index S a = omega arith in
+        let s : (256 * index S a + d) % 256 ≡ d = omega arith in
+        let p : placeOf S (256 * index S a + d) ≡ two a ++ one d = rw (q, s, e) refl in
+        subst (λ (l : List ℕ). placed img M S l ≡ At (256 * index S a + d)) p
+        (placed-slot (256 * index S a + d) (record { right = r; one-of = slots-member (directory img M S) (index S a) d m t }))
+
+    -- and only so
+    pub placed-only : (o : ℕ) → placed img M S (two a ++ one d) ≡ At o
+        → (member (index S a) (directory img M S) ≡ true) × (addressOf S (index S a) ≡ a) × (isDisplacement d ≡ true)
+    placed-only o h =
+        let p = placed-is img M S (two a ++ one d) o h in
+        let r = each-member _ (slots img M S) o rows (p .0 .one-of) in
+        let q = place-says S o some (r .0 .0) a d ha hd (p .1) in
+        let k : o / 256 ≡ index S a = sym (place-index S (o / 256) some (r .0 .0)) ∙ ap (index S) (q .0) in
+        (rw (← k) (r .0 .1), rw (← k) (q .0), rw (← (q .1)) (r .1))
+
+    pub placed-none : directoryRight img M S ≡ true → ((o : ℕ) → placed img M S (two a ++ one d) ≡ At o → ⊥) → placed img M S (two a ++ one d) ≡ Missing
+    unfolding placed
+    placed-none r h = rw r (scan-none (λ slot. same (placeOf S slot) (two a ++ one d)) (slots img M S) (λ o e. h o (rw r e)))

@@ -2,20 +2,21 @@
 use mathlib.Core.Path.{_≡_, refl, sym, ap, _∙_, subst}
 use mathlib.Core.Logic.{_≢_}
 use mathlib.Core.Bool.{Bool, true, false}
-use mathlib.Core.List.{List, [], _∷_}
-use Prim.Native.Nat.{ℕ, zero, suc, _+_, _*_, _≤_, _<_}
+use mathlib.Core.List.{List, [], _∷_, _++_}
+use Prim.Native.Nat.{ℕ, zero, suc, _+_, _-_, _*_, _≤_, _<_}
 use native.Mathlib.Omega.{arith}
 use lib.ListN.{length, replicate, length-append, length-replicate}
-use lib.Dec.{eqb, leb}
-use borrow.Author.Tests.{eqb-true, eqb-false, eq-eqb, ne-eqb, le-leb}
+use lib.Dec.{eqb, leb, ltb}
+use borrow.Author.Tests.{eqb-true, eqb-false, eq-eqb, ne-eqb, le-leb, ltb-false}
 use Rattle.rules.specs.Bytes.{pick, two}
 use Rattle.rules.specs.Image.{shapeRight, lastTrack, perTrack, index, isData, linkOf, firstFree, lastFree, freeCount}
-use Rattle.rules.specs.Directory.{directoryRight, slots, live, member, startAt, endAt, sizeAt}
-use Rattle.rules.specs.Census.{twins, runsOut, chainRight, numbersFrom, freeRight, fileRight, filesRight, fileNumbers, fileOwners, filesNumbers, filesOwners, listed, owners, eachOnce, Survey, survey, fault, concluded, census}
+use Rattle.rules.specs.Directory.{live, member, directoryRight, directory, slots, startAt, endAt, sizeAt}
+use Rattle.rules.specs.Census.{twins, runsOut, chainRight, numbersFrom, freeRight, fileRight, filesRight, fileNumbers, fileOwners, filesNumbers, filesOwners, directoryNumbers, listed, directoryOwner, owners, eachOnce, Survey, survey, fault, concluded, census}
 use Rattle.rules.specs.Host.{asBytes, hostConcluded, hostCensus}
 use Rattle.laws.specs.Tests.{both, either, pick-cases}
 use Rattle.laws.specs.Each.{Each, each-append, each-member, among, among-each}
 use Rattle.laws.specs.Addresses.{Shaped, shape-is, shape-true, data-is, number-high}
+use Rattle.laws.specs.Slots.{InDirectory, directory-in}
 use Rattle.laws.specs.Counting.{once-length}
 
 -- ---- lists
@@ -45,16 +46,20 @@ length-files img S owner (o ∷ os) =
       length-files img S (owner + 1) os,
     )
 
-pub length-owners : (img : List ℕ) (S : ℕ) → length (owners img S) ≡ length (listed img S)
+pub length-owners : (img : List ℕ) (M S : ℕ) → length (owners img M S) ≡ length (listed img M S)
 unfolding owners listed
-length-owners img S =
+length-owners img M S =
+    let ds = directoryNumbers S (directory img M S) in
     omega (
       arith,
-      length-append (replicate (freeCount img) 0) (filesOwners img 1 (slots img S)),
-      length-append (numbersFrom img S (freeCount img) (firstFree img)) (filesNumbers img S (slots img S)),
+      length-append (replicate (freeCount img) 0) (replicate (length ds) directoryOwner ++ filesOwners img 1 (slots img M S)),
+      length-append (replicate (length ds) directoryOwner) (filesOwners img 1 (slots img M S)),
+      length-append (numbersFrom img S (freeCount img) (firstFree img)) (ds ++ filesNumbers img S (slots img M S)),
+      length-append ds (filesNumbers img S (slots img M S)),
       length-replicate {A = ℕ} (freeCount img) 0,
+      length-replicate {A = ℕ} (length ds) directoryOwner,
       length-numbers img S (freeCount img) (firstFree img),
-      length-files img S 1 (slots img S),
+      length-files img S 1 (slots img M S),
     )
 
 pub length-bytes : (xs : List ℕ) → length (asBytes xs) ≡ 2 * length xs
@@ -106,28 +111,38 @@ numbers-files img M S (o ∷ os) h =
     let q = both (fileRight img M S o) _ h in
     each-append (λ (x : ℕ). x < M * S) (fileNumbers img S o) (filesNumbers img S os) (numbers-file img M S o (q .0)) (numbers-files img M S os (q .1))
 
+-- of the directory's sectors
+numbers-directory : (M S : ℕ) (ks : List ℕ) → Each (InDirectory M S) ks → Numbers M S (directoryNumbers S ks)
+unfolding directoryNumbers
+numbers-directory M S [] h = tt
+numbers-directory M S (k ∷ ks) h =
+    pick-cases (Numbers M S) (ltb k S) _ _ (λ e. numbers-directory M S ks (h .1))
+    (λ e. let l = ltb-false k S e in let q = h .0 .1 in (omega arith, numbers-directory M S ks (h .1)))
+
 -- of all chains
-pub numbers-listed : (img : List ℕ) (M S : ℕ) → freeRight img M S ≡ true → filesRight img M S (slots img S) ≡ true → Numbers M S (listed img S)
+pub numbers-listed : (img : List ℕ) (M S : ℕ) → 5 ≤ S → freeRight img M S ≡ true → filesRight img M S (slots img M S) ≡ true → Numbers M S (listed img M S)
 unfolding listed freeRight
-numbers-listed img M S f h =
-    each-append (λ (x : ℕ). x < M * S) (numbersFrom img S (freeCount img) (firstFree img)) (filesNumbers img S (slots img S))
+numbers-listed img M S s f h =
+    each-append (λ (x : ℕ). x < M * S) (numbersFrom img S (freeCount img) (firstFree img)) _
     (numbers-chain img M S (firstFree img) (lastFree img) (freeCount img) f)
-    (numbers-files img M S (slots img S) h)
+    (each-append (λ (x : ℕ). x < M * S) (directoryNumbers S (directory img M S)) (filesNumbers img S (slots img M S))
+    (numbers-directory M S (directory img M S) (directory-in img M S s))
+    (numbers-files img M S (slots img M S) h))
 
 -- ---- what the census asks of an image of the right shape
 
 pub record Sane (img : List ℕ) (M S : ℕ) : Type 0 where
-  pub right : directoryRight img S ≡ true
-  pub no-twins : twins img (slots img S) ≡ false
+  pub right : directoryRight img M S ≡ true
+  pub no-twins : twins img (slots img M S) ≡ false
   pub free : freeRight img M S ≡ true
-  pub files : filesRight img M S (slots img S) ≡ true
-  pub once : eachOnce (M * S) (listed img S) ≡ true
+  pub files : filesRight img M S (slots img M S) ≡ true
+  pub once : eachOnce (M * S) (listed img M S) ≡ true
 
-pub listed-below : (img : List ℕ) (M S : ℕ) → Sane img M S → Numbers M S (listed img S)
-listed-below img M S s = numbers-listed img M S (s .free) (s .files)
+pub listed-below : (img : List ℕ) (M S : ℕ) → 5 ≤ S → Sane img M S → Numbers M S (listed img M S)
+listed-below img M S h s = numbers-listed img M S h (s .free) (s .files)
 
-pub length-listed : (img : List ℕ) (M S : ℕ) → Sane img M S → length (listed img S) ≡ M * S
-length-listed img M S s = once-length (M * S) (listed img S) (s .once) (listed-below img M S s)
+pub length-listed : (img : List ℕ) (M S : ℕ) → 5 ≤ S → Sane img M S → length (listed img M S) ≡ M * S
+length-listed img M S h s = once-length (M * S) (listed img M S) (s .once) (listed-below img M S h s)
 
 -- its numbers
 abbrev pub faults : List ℕ
@@ -137,12 +152,12 @@ faults = 42 ∷ 43 ∷ 44 ∷ 45 ∷ 46 ∷ []
 pub fault-is : (img : List ℕ) (M S : ℕ) → (member (fault img M S) (0 ∷ faults) ≡ true) × (fault img M S ≡ 0 → Sane img M S)
 unfolding fault member
 fault-is img M S =
-    pick-cases P (directoryRight img S) _ 42
-    (λ a. pick-cases P (twins img (slots img S)) 43 _
+    pick-cases P (directoryRight img M S) _ 42
+    (λ a. pick-cases P (twins img (slots img M S)) 43 _
     (λ b. (refl, λ h. absurd (omega arith)))
     (λ b. pick-cases P (freeRight img M S) _ 44
-    (λ c. pick-cases P (filesRight img M S (slots img S)) _ 45
-    (λ d. pick-cases P (eachOnce (M * S) (listed img S)) 0 46
+    (λ c. pick-cases P (filesRight img M S (slots img M S)) _ 45
+    (λ d. pick-cases P (eachOnce (M * S) (listed img M S)) 0 46
     (λ e. (refl, λ h. record { right = a; no-twins = b; free = c; files = d; once = e }))
     (λ e. (refl, λ h. absurd (omega arith))))
     (λ d. (refl, λ h. absurd (omega arith))))
@@ -196,7 +211,7 @@ abbrev pub OfSurvey : (ℕ → List ℕ → List ℕ → Type 0) → Survey → 
 OfSurvey P (survey a us ws) = P a us ws
 
 module _ (img : List ℕ) (n v : ℕ) (ls os xs ys : List ℕ)
-    (long : SaneImage img → (length ls ≡ n) × (length os ≡ n)) where
+    (long : Shaped img → SaneImage img → (length ls ≡ n) × (length os ≡ n)) where
   abbrev T : Survey → Type 0
   T s = OfSurvey (Surveyed img n v ls os xs ys) s
 
@@ -235,8 +250,8 @@ module _ (img : List ℕ) (n v : ℕ) (ls os xs ys : List ℕ)
       (λ e. let s = fault-is img (lastTrack img) (perTrack img) .1 (eqb-true (faultOf img) 0 e) in
       record {
         answers = refl;
-        first-length = long s .0 ∙ sym h;
-        second-length = long s .1 ∙ sym k;
+        first-length = long z s .0 ∙ sym h;
+        second-length = long z s .1 ∙ sym k;
         kept = λ p q. absurd (omega arith);
         filled = λ p. absurd (omega arith);
         accepted = λ p. (refl, refl);
@@ -270,30 +285,32 @@ module _ (img : List ℕ) (n v : ℕ) (ls os xs ys : List ℕ)
 
 -- whatever the census answers
 module _ (img xs ys : List ℕ) (a : ℕ) (us ws : List ℕ) where
-  listed-long : SaneImage img → (length (listed img (perTrack img)) ≡ dataSectors img) × (length (owners img (perTrack img)) ≡ dataSectors img)
-  listed-long s = (length-listed img (lastTrack img) (perTrack img) s, length-owners img (perTrack img) ∙ length-listed img (lastTrack img) (perTrack img) s)
+  listed-long : Shaped img → SaneImage img → (length (listed img (lastTrack img) (perTrack img)) ≡ dataSectors img) × (length (owners img (lastTrack img) (perTrack img)) ≡ dataSectors img)
+  listed-long z s =
+      let l = length-listed img (lastTrack img) (perTrack img) (z .shape .sectors) s in
+      (l, length-owners img (lastTrack img) (perTrack img) ∙ l)
 
-  bytes-long : SaneImage img → (length (asBytes (listed img (perTrack img))) ≡ 2 * dataSectors img) × (length (asBytes (owners img (perTrack img))) ≡ 2 * dataSectors img)
-  bytes-long s =
-      let l = listed-long s in
-      (omega (arith, length-bytes (listed img (perTrack img)), l .0), omega (arith, length-bytes (owners img (perTrack img)), l .1))
+  bytes-long : Shaped img → SaneImage img → (length (asBytes (listed img (lastTrack img) (perTrack img))) ≡ 2 * dataSectors img) × (length (asBytes (owners img (lastTrack img) (perTrack img))) ≡ 2 * dataSectors img)
+  bytes-long z s =
+      let l = listed-long z s in
+      (omega (arith, length-bytes (listed img (lastTrack img) (perTrack img)), l .0), omega (arith, length-bytes (owners img (lastTrack img) (perTrack img)), l .1))
 
-  pub census-is : census img xs ys ≡ survey a us ws → Surveyed img (dataSectors img) 65535 (listed img (perTrack img)) (owners img (perTrack img)) xs ys a us ws
+  pub census-is : census img xs ys ≡ survey a us ws → Surveyed img (dataSectors img) 65535 (listed img (lastTrack img) (perTrack img)) (owners img (lastTrack img) (perTrack img)) xs ys a us ws
   unfolding census concluded
   census-is e =
-      subst (OfSurvey (Surveyed img (dataSectors img) 65535 (listed img (perTrack img)) (owners img (perTrack img)) xs ys)) e
-      (surveyed img (dataSectors img) 65535 (listed img (perTrack img)) (owners img (perTrack img)) xs ys listed-long)
+      subst (OfSurvey (Surveyed img (dataSectors img) 65535 (listed img (lastTrack img) (perTrack img)) (owners img (lastTrack img) (perTrack img)) xs ys)) e
+      (surveyed img (dataSectors img) 65535 (listed img (lastTrack img) (perTrack img)) (owners img (lastTrack img) (perTrack img)) xs ys listed-long)
 
-  pub host-census-is : hostCensus img xs ys ≡ survey a us ws → Surveyed img (2 * dataSectors img) 255 (asBytes (listed img (perTrack img))) (asBytes (owners img (perTrack img))) xs ys a us ws
+  pub host-census-is : hostCensus img xs ys ≡ survey a us ws → Surveyed img (2 * dataSectors img) 255 (asBytes (listed img (lastTrack img) (perTrack img))) (asBytes (owners img (lastTrack img) (perTrack img))) xs ys a us ws
   unfolding hostCensus hostConcluded
   host-census-is e =
-      subst (OfSurvey (Surveyed img (2 * dataSectors img) 255 (asBytes (listed img (perTrack img))) (asBytes (owners img (perTrack img))) xs ys)) e
-      (surveyed img (2 * dataSectors img) 255 (asBytes (listed img (perTrack img))) (asBytes (owners img (perTrack img))) xs ys bytes-long)
+      subst (OfSurvey (Surveyed img (2 * dataSectors img) 255 (asBytes (listed img (lastTrack img) (perTrack img))) (asBytes (owners img (lastTrack img) (perTrack img))) xs ys)) e
+      (surveyed img (2 * dataSectors img) 255 (asBytes (listed img (lastTrack img) (perTrack img))) (asBytes (owners img (lastTrack img) (perTrack img))) xs ys bytes-long)
 
 -- and it accepts what is sane
 pub census-accepts : (img xs ys : List ℕ) → Shaped img → SaneImage img
     → length xs ≡ dataSectors img → length ys ≡ dataSectors img
-    → census img xs ys ≡ survey 0 (listed img (perTrack img)) (owners img (perTrack img))
+    → census img xs ys ≡ survey 0 (listed img (lastTrack img) (perTrack img)) (owners img (lastTrack img) (perTrack img))
 unfolding census concluded
 census-accepts img xs ys z s h k =
     rw (

@@ -8,19 +8,19 @@ use native.Mathlib.Omega.{arith}
 use native.Mathlib.Decide.{ℕ-discrete}
 use lib.ListN.{length}
 use lib.Dec.{eqb, leb, ltb}
-use borrow.Author.Tests.{ltb-true, lt-ltb, le-ltb, lt-leb}
+use borrow.Author.Tests.{ltb-true, le-ltb, lt-leb}
 use Rattle.rules.specs.Bytes.{pick, within, byteAt, one}
 use Rattle.rules.specs.Stores.{Store, store, stored, Put, put, puts}
-use Rattle.rules.specs.Image.{perTrack}
+use Rattle.rules.specs.Image.{lastTrack, perTrack}
 use Rattle.rules.specs.declared.Lookup.{Lookup}
 use Rattle.rules.specs.declared.Lookup.the-variants.{At}
-use Rattle.rules.specs.Directory.{member}
+use Rattle.rules.specs.Directory.{member, lastSector}
 use Rattle.rules.specs.Outcome.{Outcome, refuse, done, andThen, given, onImage, onBlock, settled}
-use Rattle.laws.specs.Tests.{never, both, within-true}
+use Rattle.laws.specs.Tests.{never, both, neither, within-true}
 use Rattle.laws.specs.Each.{Each, each-append}
 use Rattle.laws.specs.Small.{Small}
 use Rattle.laws.specs.Stores.{Piece, piece, Off, inImage, inBlock, stored-off, puts-off}
-use Rattle.demands.specs.Demands.{names, looks, slotNamed, sectorsNamed, inNamed, movesFree, named}
+use Rattle.demands.specs.Demands.{names, looks, slotNamed, sectorsNamed, inNamed, grows, movesFree, inLink, named}
 
 -- ---- in the block
 
@@ -86,15 +86,18 @@ within-false lo hi p h = go (leb lo p)
     go false = refl
     go true = lt-leb p hi h
 
--- a store into the information record's 29-34, if they move, into the slot l, or into one of the data sectors ks
-pub data Lies (S : ℕ) (moves : Bool) (ks : List ℕ) (l : Lookup) : Store → Type 0 where
-  in-record : (vs : List ℕ) → 2 < S → moves ≡ true → length vs ≡ 6 → Lies S moves ks l (store 2 29 vs)
-  in-slot : (o k i : ℕ) (vs : List ℕ) → l ≡ At o → o + 24 ≤ 256 * S → 547 ≤ o → o ≤ 256 * k + i → 256 * k + i + length vs ≤ o + 24 → Lies S moves ks l (store k i vs)
-  in-sector : (k i : ℕ) (vs : List ℕ) → S ≤ k → member k ks ≡ true → i + length vs ≤ 256 → Lies S moves ks l (store k i vs)
+-- a store into the information record's 29-34, if they move; into the slot l; into the link of the directory's last sector, if it grows; or into
+-- one of the data sectors ks
+pub data Lies (S : ℕ) (moves grow : Bool) (last : ℕ) (ks : List ℕ) (l : Lookup) : Store → Type 0 where
+  in-record : (vs : List ℕ) → moves ≡ true → length vs ≡ 6 → Lies S moves grow last ks l (store 2 29 vs)
+  in-slot : (o k i : ℕ) (vs : List ℕ) → l ≡ At o → 547 ≤ o → o ≤ 256 * k + i → 256 * k + i + length vs ≤ o + 24 → Lies S moves grow last ks l (store k i vs)
+  in-link : (vs : List ℕ) → grow ≡ true → 4 ≤ last → length vs ≡ 2 → Lies S moves grow last ks l (store last 0 vs)
+  in-sector : (k i : ℕ) (vs : List ℕ) → 3 ≤ S → S ≤ k → member k ks ≡ true → i + length vs ≤ 256 → Lies S moves grow last ks l (store k i vs)
 
 -- as a call of this code may store
 abbrev pub Stored : List ℕ → List ℕ → ℕ → ℕ → Store → Type 0
-Stored img tab f code t = Lies (perTrack img) (movesFree code) (sectorsNamed img tab f code) (slotNamed img tab f code) t
+Stored img tab f code t =
+    Lies (perTrack img) (movesFree img code) (grows img code) (lastSector img (lastTrack img) (perTrack img)) (sectorsNamed img tab f code) (slotNamed img tab f code) t
 
 abbrev pieceOf : Store → Piece
 pieceOf (store k i vs) = piece (256 * k + i) vs
@@ -103,26 +106,32 @@ module _ (img tab : List ℕ) (f code p : ℕ) (h : named img tab f code p ≡ f
   abbrev S : ℕ
   S = perTrack img
 
+  abbrev last : ℕ
+  last = lastSector img (lastTrack img) S
+
   -- what it is that p is not named
-  low : p < 256 * S → pick (within 541 546 p) (movesFree code) (inNamed (slotNamed img tab f code) p) ≡ false
+  not-in-record : within 541 546 p ≡ true → movesFree img code ≡ false
   unfolding named
-  low l = rw (lt-ltb p (256 * S) l) at h
+  not-in-record w = rw w at h
 
-  not-in-record : p < 256 * S → within 541 546 p ≡ true → movesFree code ≡ false
-  not-in-record l w = rw w at (low l)
-
-  not-in-slot : p < 256 * S → within 541 546 p ≡ false → inNamed (slotNamed img tab f code) p ≡ false
-  not-in-slot l w = rw w at (low l)
-
-  not-in-sector : 256 * S ≤ p → member (p / 256) (sectorsNamed img tab f code) ≡ false
+  elsewhere : within 541 546 p ≡ false
+      → (inNamed (slotNamed img tab f code) p ≡ false) × (pick (grows img code) (inLink last p) false ≡ false)
+      × (pick (ltb p (256 * S)) false (member (p / 256) (sectorsNamed img tab f code)) ≡ false)
   unfolding named
-  not-in-sector l = rw (le-ltb p (256 * S) l) at h
+  elsewhere w =
+      let q = neither (inNamed (slotNamed img tab f code) p) _ (rw w at h) in
+      let t = neither (pick (grows img code) (inLink last p) false) _ (q .1) in
+      (q .0, t .0, t .1)
 
   off-it : (t : Store) → Stored img tab f code t → Off p (pieceOf t)
-  off-it t (in-record vs s m l) = λ a b. never (sym (not-in-record (omega arith) (within-true 541 546 p (omega arith) (omega arith))) ∙ m)
-  off-it t (in-slot o k i vs e u g v w) =
-      λ a b. never (sym (ap (λ (l : Lookup). inNamed l p) (sym e) ∙ not-in-slot (omega arith) (within-false 541 546 p (omega arith))) ∙ within-true o (o + 23) p (omega arith) (omega arith))
-  off-it t (in-sector k i vs s m e) = λ a b. let r : p / 256 ≡ k = omega arith in never (sym (rw r at (not-in-sector (omega arith))) ∙ m)
+  off-it t (in-record vs m l) = λ a b. never (sym (not-in-record (within-true 541 546 p (omega arith) (omega arith))) ∙ m)
+  off-it t (in-slot o k i vs e g v w) =
+      λ a b. never (sym (ap (λ (l : Lookup). inNamed l p) (sym e) ∙ elsewhere (within-false 541 546 p (omega arith)) .0) ∙ within-true o (o + 23) p (omega arith) (omega arith))
+  off-it t (in-link vs g u l) =
+      λ a b. never (sym (rw g at (elsewhere (within-false 541 546 p (omega arith)) .1)) ∙ within-true (256 * last) (256 * last + 1) p (omega arith) (omega arith))
+  off-it t (in-sector k i vs g s m e) =
+      λ a b. let r : p / 256 ≡ k = omega arith in
+      never (sym (rw (le-ltb p (256 * S) (omega arith), r) at (elsewhere (within-false 541 546 p (omega arith)) .2)) ∙ m)
 
   all-off : (ss : List Store) → Each (Stored img tab f code) ss → Each (Off p) (inImage ss)
   all-off [] a = tt

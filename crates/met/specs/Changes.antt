@@ -2,28 +2,32 @@
 use mathlib.Core.Path.{_≡_, refl, sym, ap, _∙_, subst}
 use mathlib.Core.Logic.{_≢_}
 use mathlib.Core.Bool.{true, false}
-use mathlib.Core.List.{List, [], _∷_, _++_}
-use Prim.Native.Nat.{ℕ, suc, _<_}
+use mathlib.Core.List.{List, [], _∷_, _++_, append-nil, append-assoc}
+use Prim.Native.Nat.{ℕ, zero, suc, _+_, _≤_, _<_}
 use native.Mathlib.Omega.{arith}
-use native.Mathlib.Decide.{ℕ-discrete}
-use lib.ListN.{length, getD, set, drop, length-set}
+use native.Mathlib.Decide.{ℕ-discrete, decLt}
+use lib.ListN.{length, getD, set, drop, length-append, length-set, List·getD-append}
 use lib.Seq.{getD-set-same, getD-set-other}
 use lib.Dec.{eqb, ltb}
 use borrow.Author.Tests.{eqb-true, eqb-false}
-use Rattle.rules.specs.Bytes.{pick}
+use Rattle.rules.specs.Bytes.{pick, zeros}
 use Rattle.rules.specs.Image.{isSector}
 use Rattle.rules.specs.Names.{legal}
-use Rattle.rules.specs.Directory.{live, named, vacant, slotsOf}
+use Rattle.rules.specs.Directory.{firstSlotOf, live, neverUsed, named, vacant, slotsOf}
 use Rattle.rules.specs.Stores.{put}
 use Rattle.rules.specs.Files.{opened, writeProtected, deleteProtected, readProtected}
 use Rattle.rules.specs.Call.{served, fits}
 use Rattle.laws.specs.Tests.{pick-cases, pick-all}
+use Rattle.chains.specs.Tally.{tally, tally-append}
+use Rattle.chains.specs.Chain.{in-one}
 use Rattle.chains.specs.Addresses.{absurd-bool}
-use Rattle.demands.specs.Ledger.{File, noFile, Block, closed, listing, reading, writing, Ledger, Request, Fate, denied, granted, Sought, nowhere, slot, onSought, fileNamed, vacantSlot, busy, activity, block, file, attributes, setBlock, setFile, setFree, withMark, withName, newFile, taken, transferred, openedToRead, openedToWrite, shutBlock, rewound, shownNext, deleted, fetched, renamed, performed, called, joined, entryOf}
+use Rattle.demands.specs.Ledger.{File, noFile, Block, closed, listing, reading, writing, Ledger, Request, Fate, denied, granted, Sought, nowhere, slot, onSought, fileNamed, vacantSlot, busy, activity, block, file, attributes, setBlock, setFile, setFree, withMark, withName, newFile, unusedSlots, addSector, taken, transferred, grown, openedToRead, openedToWrite, shutBlock, rewound, shownNext, deleted, fetched, renamed, performed, called, joined, entryOf}
 use Rattle.met.specs.Tames.{last-code}
 use Rattle.met.specs.Relation.{opens, writes, Keeps, Agrees}
 use Rattle.met.specs.Searches.{slot-same, seek-found, vacant-hit, marked-dead}
-use Rattle.met.specs.Tidy.{nameOf, Tidy, tidy-set, found-none}
+use Rattle.laws.specs.Bytes.{length-zeros}
+use Rattle.met.specs.Unused.{length-unused, unused-at, unused-dead}
+use Rattle.met.specs.Tidy.{nameOf, Tidy, tidy-set, tidy-more, found-none}
 
 -- ---- the kinds of change
 
@@ -48,6 +52,9 @@ pub data Change (a : Ledger) (n : ℕ) (q : Request) : Ledger → Type 0 where
   -- a new file; one deleted by its name; one renamed by its name
   made : q .code ≢ 13 → (s : ℕ) → legal (q .name) 0 ≡ true → fileNamed (q .name) (a .slots) ≡ nowhere → vacantSlot (a .slots) ≡ slot s
       → Change a n q (setFile a s (newFile ((file a s) .at) (q .name) (q .date)) n (writing s []))
+  -- the same in a sector that the directory gets
+  grew : q .code ≢ 13 → (k : ℕ) (fr : List ℕ) → a .free ≡ k ∷ fr → fileNamed (q .name) (a .slots) ≡ nowhere
+      → Change a n q (addSector a k fr (newFile (firstSlotOf k) (q .name) (q .date)) n (writing (length (a .slots)) []))
   gone : (s : ℕ) → q .code ≡ 12 → fileNamed (q .name) (a .slots) ≡ slot s → busy true s (a .blocks) 8 ≡ false
       → Change a n q (setFree a (a .free ++ (file a s) .secs) (a .spare ++ joined ((file a s) .recs) ((file a s) .body)) s (withMark (file a s)) n (block a n))
   retitled : (s : ℕ) → q .code ≡ 13 → fileNamed (q .name) (a .slots) ≡ slot s → busy true s (a .blocks) 8 ≡ false → legal (q .rename) 0 ≡ true
@@ -78,18 +85,22 @@ module _ (M S : ℕ) (a : Ledger) (n : ℕ) (q : Request) where
   unfolding openedToRead
   change-open-read ne = pick-all C (legal (q .name) 0) _ _ (go (fileNamed (q .name) (a .slots))) tt
     where
-      go : (x : Sought) → C (onSought x (denied 4) (λ s. pick (readProtected (attributes a s)) (denied 17) (pick (busy false s (a .blocks) 8) (denied 2) (granted 0 (setBlock a n (reading s 0 0)) (opened 1 ((file a s) .at) (entryOf (file a s)))))))
+      go : (x : Sought) → C (onSought x (denied 4) (λ s. pick (readProtected (attributes a s)) (denied 17) (pick (busy false s (a .blocks) 8) (denied 2) (granted 0 (setBlock a n (reading s 0 0)) (opened S 1 ((file a s) .at) (entryOf (file a s)))))))
       go nowhere = tt
       go (slot s) = pick-all C (readProtected (attributes a s)) _ _ tt (pick-all C (busy false s (a .blocks) 8) _ _ tt (turned ne _ (λ t h. absurd (omega arith))))
+
+  change-grown : q .code ≢ 13 → fileNamed (q .name) (a .slots) ≡ nowhere → (x : List ℕ) → a .free ≡ x → C (grown M S a n q x)
+  change-grown ne e [] ef = tt
+  change-grown ne e (k ∷ fr) ef = grew ne k fr ef e
 
   change-open-write : q .code ≢ 13 → C (openedToWrite M S a n q)
   unfolding openedToWrite
   change-open-write ne = pick-cases C (legal (q .name) 0) _ _ (λ h. go h (fileNamed (q .name) (a .slots)) refl (vacantSlot (a .slots)) refl) (λ h. tt)
     where
       go : legal (q .name) 0 ≡ true → (x : Sought) → fileNamed (q .name) (a .slots) ≡ x → (y : Sought) → vacantSlot (a .slots) ≡ y
-          → C (onSought x (onSought y (denied 6) (λ s. granted 0 (setFile a s (newFile ((file a s) .at) (q .name) (q .date)) n (writing s [])) (opened 2 ((file a s) .at) (entryOf (newFile ((file a s) .at) (q .name) (q .date)))))) (λ s. denied 3))
+          → C (onSought x (onSought y (grown M S a n q (a .free)) (λ s. granted 0 (setFile a s (newFile ((file a s) .at) (q .name) (q .date)) n (writing s [])) (opened S 2 ((file a s) .at) (entryOf (newFile ((file a s) .at) (q .name) (q .date)))))) (λ s. denied 3))
       go h (slot s) e y f = tt
-      go h nowhere e nowhere f = tt
+      go h nowhere e nowhere f = change-grown ne e (a .free) refl
       go h nowhere e (slot s) f = made ne s h e f
 
   change-shut : q .code ≢ 13 → (o : Block) → block a n ≡ o → C (shutBlock M S a n q o)
@@ -169,17 +180,55 @@ forms-kept a a′ n q (turned ne b st) = refl
 forms-kept a a′ n q (worked ne s ub fr vs f b x y st fd) = refl
 forms-kept a a′ n q (dropped ne s ub x) = refl
 forms-kept a a′ n q (made ne s x y w) = refl
+forms-kept a a′ n q (grew ne k fr ef x) = refl
 forms-kept a a′ n q (gone s x y by) = refl
 forms-kept a a′ n q (retitled s x y by w v) = refl
 
-pub base-kept : (a a′ : Ledger) (n : ℕ) (q : Request) → Change a n q a′ → a′ .base ≡ a .base
-base-kept a a′ n q (still ne) = refl
-base-kept a a′ n q (turned ne b st) = refl
-base-kept a a′ n q (worked ne s ub fr vs f b x y st fd) = refl
-base-kept a a′ n q (dropped ne s ub x) = refl
-base-kept a a′ n q (made ne s x y w) = refl
-base-kept a a′ n q (gone s x y by) = refl
-base-kept a a′ n q (retitled s x y by w v) = refl
+-- the start's image, and the directory's sectors with what stands before their slots: kept, data sectors behind them
+pub record Onward (S : ℕ) (a a′ : Ledger) : Type 0 where
+  pub base : a′ .base ≡ a .base
+  pub ks : List ℕ
+  pub vs : List (List ℕ)
+  pub dir : a′ .dir ≡ a .dir ++ ks
+  pub heads : a′ .heads ≡ a .heads ++ vs
+  pub behind : (x : ℕ) → 1 ≤ tally x ks → S ≤ x
+
+pub onward-same : (S : ℕ) (a a′ : Ledger) → a′ .base ≡ a .base → a′ .dir ≡ a .dir → a′ .heads ≡ a .heads → Onward S a a′
+onward-same S a a′ b d h =
+    record { base = b; ks = []; vs = []; dir = d ∙ sym (append-nil (a .dir)); heads = h ∙ sym (append-nil (a .heads)); behind = λ x t. absurd (omega arith) }
+
+pub onward-then : (S : ℕ) (a b c : Ledger) → Onward S a b → Onward S b c → Onward S a c
+onward-then S a b c u v =
+    record {
+      base = v .base ∙ u .base;
+      ks = u .ks ++ v .ks;
+      vs = u .vs ++ v .vs;
+      dir = v .dir ∙ ap (λ (l : List ℕ). l ++ v .ks) (u .dir) ∙ append-assoc (a .dir) (u .ks) (v .ks);
+      heads = v .heads ∙ ap (λ (l : List (List ℕ)). l ++ v .vs) (u .heads) ∙ append-assoc (a .heads) (u .vs) (v .vs);
+      behind = λ x t. go x (tally x (u .ks)) refl (omega (arith, t, tally-append x (u .ks) (v .ks)));
+    }
+  where
+    go : (x n : ℕ) → tally x (u .ks) ≡ n → 1 ≤ tally x (u .ks) + tally x (v .ks) → S ≤ x
+    go x zero e t = v .behind x (omega (arith, t, e))
+    go x (suc n) e t = u .behind x (omega (arith, e))
+
+pub onward : (S : ℕ) (a a′ : Ledger) (n : ℕ) (q : Request) → ((x : ℕ) → 1 ≤ tally x (a .free) → S ≤ x) → Change a n q a′ → Onward S a a′
+onward S a a′ n q low (still ne) = onward-same S a a′ refl refl refl
+onward S a a′ n q low (turned ne b st) = onward-same S a a′ refl refl refl
+onward S a a′ n q low (worked ne s ub fr vs f b x y st fd) = onward-same S a a′ refl refl refl
+onward S a a′ n q low (dropped ne s ub x) = onward-same S a a′ refl refl refl
+onward S a a′ n q low (made ne s x y w) = onward-same S a a′ refl refl refl
+onward S a a′ n q low (grew ne k fr ef x) =
+    record {
+      base = refl;
+      ks = k ∷ [];
+      vs = zeros 14 ∷ [];
+      dir = refl;
+      heads = refl;
+      behind = λ y t. low y (let e : y ≡ k = in-one y k t in omega (arith, ap (tally y) ef, t));
+    }
+onward S a a′ n q low (gone s x y by) = onward-same S a a′ refl refl refl
+onward S a a′ n q low (retitled s x y by w v) = onward-same S a a′ refl refl refl
 
 pub freed : (a a′ : Ledger) (n : ℕ) (q : Request) → Change a n q a′ → Freed a (a′ .free) (a′ .spare)
 freed a a′ n q (still ne) = same
@@ -187,6 +236,7 @@ freed a a′ n q (turned ne b st) = same
 freed a a′ n q (worked ne s ub fr vs f b x y st fd) = fd
 freed a a′ n q (dropped ne s ub x) = same
 freed a a′ n q (made ne s x y w) = same
+freed a a′ n q (grew ne k fr ef x) = fewer k fr ef
 freed a a′ n q (gone s x y by) = more ((file a s) .secs) (joined ((file a s) .recs) ((file a s) .body))
 freed a a′ n q (retitled s x y by w v) = same
 
@@ -197,18 +247,29 @@ other-block a a′ n q (turned ne b st) m e = getD-set-other (a .blocks) n m b c
 other-block a a′ n q (worked ne s ub fr vs f b x y st fd) m e = getD-set-other (a .blocks) n m b closed e
 other-block a a′ n q (dropped ne s ub x) m e = getD-set-other (a .blocks) n m closed closed e
 other-block a a′ n q (made ne s x y w) m e = getD-set-other (a .blocks) n m (writing s []) closed e
+other-block a a′ n q (grew ne k fr ef x) m e = getD-set-other (a .blocks) n m (writing (length (a .slots)) []) closed e
 other-block a a′ n q (gone s x y by) m e = getD-set-other (a .blocks) n m (block a n) closed e
 other-block a a′ n q (retitled s x y by w v) m e = getD-set-other (a .blocks) n m (block a n) closed e
 
--- slot s: kept, or the file that n writes, or the new one, or the one that is deleted or renamed by its name
+-- slot s: kept, or the file that n writes, or one that was not live, or the one that is deleted or renamed by its name
 pub data Slot (a a′ : Ledger) (n : ℕ) (q : Request) (s : ℕ) : Type 0 where
   kept : file a′ s ≡ file a s → (q .code ≡ 13 → fileNamed (q .name) (a .slots) ≢ slot s) → Slot a a′ n q s
   own : (ub : List ℕ) → block a n ≡ writing s ub → Slot a a′ n q s
-  fresh : vacantSlot (a .slots) ≡ slot s → Slot a a′ n q s
+  fresh : live (nameOf (a .slots) s) 0 ≡ false → Slot a a′ n q s
   lost : q .code ≡ 12 → fileNamed (q .name) (a .slots) ≡ slot s → busy true s (a .blocks) 8 ≡ false
       → (s < length (a .slots) → file a′ s ≡ withMark (file a s)) → Slot a a′ n q s
   moved : q .code ≡ 13 → fileNamed (q .name) (a .slots) ≡ slot s → busy true s (a .blocks) 8 ≡ false
       → (s < length (a .slots) → file a′ s ≡ withName (file a s) (q .rename)) → Slot a a′ n q s
+
+-- the slot that an open for write takes was not live; and none is live behind them
+vacant-dead : (fs : List File) (s : ℕ) → vacantSlot fs ≡ slot s → live (nameOf fs s) 0 ≡ false
+vacant-dead fs s e = vacant-hit (nameOf fs s) (seek-found (λ x. vacant x 0) fs s e .hit)
+
+none-dead : (fs : List File) (s : ℕ) → length fs ≤ s → live (nameOf fs s) 0 ≡ false
+unfolding live neverUsed
+none-dead [] s h = refl
+none-dead (f ∷ fs) zero h = absurd (omega arith)
+none-dead (f ∷ fs) (suc s) h = none-dead fs s (omega arith)
 
 pub slot-fate : (a a′ : Ledger) (n : ℕ) (q : Request) → Change a n q a′ → (s : ℕ) → Slot a a′ n q s
 slot-fate a a′ n q (still ne) s = kept refl (λ c. absurd (ne c))
@@ -226,8 +287,13 @@ slot-fate a a′ n q (dropped ne t ub x) s = go (ℕ-discrete s t)
 slot-fate a a′ n q (made ne t x y w) s = go (ℕ-discrete s t)
   where
     go : Dec (s ≡ t) → Slot a (setFile a t (newFile ((file a t) .at) (q .name) (q .date)) n (writing t [])) n q s
-    go (yes e) = fresh (w ∙ ap slot (sym e))
+    go (yes e) = fresh (vacant-dead (a .slots) s (w ∙ ap slot (sym e)))
     go (no e) = kept (getD-set-other (a .slots) t s (newFile ((file a t) .at) (q .name) (q .date)) noFile e) (λ c. absurd (ne c))
+slot-fate a a′ n q (grew ne k fr ef x) s = go (decLt s (length (a .slots)))
+  where
+    go : Dec (s < length (a .slots)) → Slot a (addSector a k fr (newFile (firstSlotOf k) (q .name) (q .date)) n (writing (length (a .slots)) [])) n q s
+    go (yes h) = kept (List·getD-append (a .slots) _ noFile s h) (λ c. absurd (ne c))
+    go (no h) = fresh (none-dead (a .slots) s (omega arith))
 slot-fate a a′ n q (gone t x y by) s = go (ℕ-discrete s t)
   where
     go : Dec (s ≡ t) → Slot a (setFree a (a .free ++ (file a t) .secs) (a .spare ++ joined ((file a t) .recs) ((file a t) .body)) t (withMark (file a t)) n (block a n)) n q s
@@ -244,14 +310,15 @@ slot-fate a a′ n q (retitled t x y by w v) s = go (ℕ-discrete s t)
         (getD-set-same (a .slots) s (withName (file a s) (q .rename)) noFile h))
     go (no e) = kept (getD-set-other (a .slots) t s (withName (file a t) (q .rename)) noFile e) (λ c v. e (slot-same s t (sym v ∙ y)))
 
-pub length-kept : (a a′ : Ledger) (n : ℕ) (q : Request) → Change a n q a′ → length (a′ .slots) ≡ length (a .slots)
-length-kept a a′ n q (still ne) = refl
-length-kept a a′ n q (turned ne b st) = refl
-length-kept a a′ n q (worked ne s ub fr vs f b x y st fd) = length-set (a .slots) s f
-length-kept a a′ n q (dropped ne s ub x) = length-set (a .slots) s (withMark (file a s))
-length-kept a a′ n q (made ne s x y w) = length-set (a .slots) s (newFile ((file a s) .at) (q .name) (q .date))
-length-kept a a′ n q (gone s x y by) = length-set (a .slots) s (withMark (file a s))
-length-kept a a′ n q (retitled s x y by w v) = length-set (a .slots) s (withName (file a s) (q .rename))
+pub length-grows : (a a′ : Ledger) (n : ℕ) (q : Request) → Change a n q a′ → length (a .slots) ≤ length (a′ .slots)
+length-grows a a′ n q (still ne) = omega arith
+length-grows a a′ n q (turned ne b st) = omega arith
+length-grows a a′ n q (worked ne s ub fr vs f b x y st fd) = omega (arith, length-set (a .slots) s f)
+length-grows a a′ n q (dropped ne s ub x) = omega (arith, length-set (a .slots) s (withMark (file a s)))
+length-grows a a′ n q (made ne s x y w) = omega (arith, length-set (a .slots) s (newFile ((file a s) .at) (q .name) (q .date)))
+length-grows a a′ n q (grew ne k fr ef x) = omega (arith, length-append (a .slots) (newFile (firstSlotOf k) (q .name) (q .date) ∷ unusedSlots (firstSlotOf k + 24) 9))
+length-grows a a′ n q (gone s x y by) = omega (arith, length-set (a .slots) s (withMark (file a s)))
+length-grows a a′ n q (retitled s x y by w v) = omega (arith, length-set (a .slots) s (withName (file a s) (q .rename)))
 
 -- a new name is legal
 pub rename-legal : (a a′ : Ledger) (n : ℕ) (q : Request) → Change a n q a′ → q .code ≡ 13 → legal (q .rename) 0 ≡ true
@@ -260,12 +327,13 @@ rename-legal a a′ n q (turned ne b st) e = absurd (ne e)
 rename-legal a a′ n q (worked ne s ub fr vs f b x y st fd) e = absurd (ne e)
 rename-legal a a′ n q (dropped ne s ub x) e = absurd (ne e)
 rename-legal a a′ n q (made ne s x y w) e = absurd (ne e)
+rename-legal a a′ n q (grew ne k fr ef x) e = absurd (ne e)
 rename-legal a a′ n q (gone s x y by) e = absurd (omega (arith, e, x))
 rename-legal a a′ n q (retitled s x y by w v) e = w
 
 -- who writes a slot afterwards wrote it before, or has just made it
 pub writes-before : (a a′ : Ledger) (n : ℕ) (q : Request) → n < length (a .blocks) → Change a n q a′ → (m s : ℕ) → writes (block a′ m) ≡ suc s
-    → vacantSlot (a .slots) ≢ slot s → writes (block a m) ≡ suc s
+    → live (nameOf (a .slots) s) 0 ≡ true → writes (block a m) ≡ suc s
 writes-before a a′ n q hn c m s w v = go (ℕ-discrete m n)
   where
     here : (b : Block) → writes (getD (set (a .blocks) n b) m closed) ≡ suc s → m ≡ n → writes b ≡ suc s
@@ -276,18 +344,15 @@ writes-before a a′ n q hn c m s w v = go (ℕ-discrete m n)
     now a′ (turned ne b st) w d = ap (λ (k : ℕ). writes (block a k)) d ∙ st s (here b w d)
     now a′ (worked ne t ub fr vs f b x y st fd) w d = ap (λ (k : ℕ). writes (block a k)) d ∙ st s (here b w d)
     now a′ (dropped ne t ub x) w d = absurd (omega (arith, here closed w d))
-    now a′ (made ne t x y z) w d = let e : t ≡ s = omega (arith, here (writing t []) w d) in absurd (v (z ∙ ap slot e))
+    now a′ (made ne t x y z) w d =
+        let e : t ≡ s = omega (arith, here (writing t []) w d) in absurd-bool v (vacant-dead (a .slots) s (z ∙ ap slot e))
+    now a′ (grew ne k fr ef x) w d = absurd-bool v (none-dead (a .slots) s (omega (arith, here (writing (length (a .slots)) []) w d)))
     now a′ (gone t x y by) w d = ap (λ (k : ℕ). writes (block a k)) d ∙ here (block a n) w d
     now a′ (retitled t x y by z u) w d = ap (λ (k : ℕ). writes (block a k)) d ∙ here (block a n) w d
 
     go : Dec (m ≡ n) → writes (block a m) ≡ suc s
     go (yes d) = now a′ c w d
     go (no d) = ap writes (sym (other-block a a′ n q c m d)) ∙ w
-
--- a live slot is not the one that an open for write takes
-pub live-not-room : (fs : List File) (s : ℕ) → live (nameOf fs s) 0 ≡ true → vacantSlot fs ≡ slot s → ⊥
-live-not-room fs s l e =
-    absurd-bool l (vacant-hit (nameOf fs s) (seek-found (λ x. vacant x 0) fs s e .hit))
 
 -- ---- 43 stays away
 
@@ -315,6 +380,11 @@ module _ (a : Ledger) (t : Tidy (a .slots)) where
   tidy-change a′ n q ln lr ow (made ne s x y w) =
       tidy-set (a .slots) t s (newFile ((file a s) .at) (q .name) (q .date)) (seek-found (λ x. vacant x 0) (a .slots) s w .low) ln
       (λ v j ne b u. found-none (q .name) (a .slots) t y j b u)
+  tidy-change a′ n q ln lr ow (grew ne k fr ef x) =
+      tidy-more (a .slots) (unusedSlots (firstSlotOf k + 24) 9) (newFile (firstSlotOf k) (q .name) (q .date)) t ln
+      (λ j b u. found-none (q .name) (a .slots) t x j b u)
+      (λ i h. let e = unused-at (firstSlotOf k + 24) 9 i (omega (arith, h, length-unused (firstSlotOf k + 24) 9)) in
+      (ap (λ (f : File). length (f .name)) e ∙ length-zeros 11, ap (λ (f : File). live (f .name) 0) e ∙ unused-dead))
   tidy-change a′ n q ln lr ow (gone s x y by) = marked s (seek-found (λ x. named x (q .name) 0) (a .slots) s y .low)
   tidy-change a′ n q ln lr ow (retitled s x y by w v) =
       tidy-set (a .slots) t s (withName (file a s) (q .rename)) (seek-found (λ x. named x (q .name) 0) (a .slots) s y .low) lr
@@ -322,12 +392,12 @@ module _ (a : Ledger) (t : Tidy (a .slots)) where
 
 -- ---- of a ledger that image and table agree with
 
-module _ (M S : ℕ) (ds img tab : List ℕ) (a : Ledger) (r : Agrees M S ds img tab a) where
+module _ (M S : ℕ) (img tab : List ℕ) (a : Ledger) (r : Agrees M S img tab a) where
   -- an open slot is live
   pub open-live : (m s : ℕ) → m < 8 → opens (block a m) ≡ suc s → (live (nameOf (a .slots) s) 0 ≡ true) × (s < length (a .slots))
   open-live m s hm e = go (block a m) (r .keeps m hm) e
     where
-      go : (b : Block) → Keeps S (slotsOf ds) tab m (a .slots) b → opens b ≡ suc s → (live (nameOf (a .slots) s) 0 ≡ true) × (s < length (a .slots))
+      go : (b : Block) → Keeps S (slotsOf (a .dir)) tab m (a .slots) b → opens b ≡ suc s → (live (nameOf (a .slots) s) 0 ≡ true) × (s < length (a .slots))
       go closed k e = absurd (omega arith)
       go (listing p) k e = absurd (omega arith)
       go (reading t j i) k e = let q : t ≡ s = omega arith in (subst (λ (x : ℕ). live (nameOf (a .slots) x) 0 ≡ true) q (k .alive), omega (arith, q, k .slot, r .ns))

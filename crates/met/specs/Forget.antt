@@ -16,7 +16,7 @@ use Rattle.rules.specs.Stores.{Put, put, puts}
 use Rattle.rules.specs.Outcome.{Effect, answer, onBlock as putsOf}
 use Rattle.rules.specs.Image.{isSector}
 use Rattle.rules.specs.Names.{legal}
-use Rattle.rules.specs.Directory.{live, named, vacant, placeOf}
+use Rattle.rules.specs.Directory.{firstSlotOf, live, named, vacant, placeOf}
 use Rattle.rules.specs.Block.{presettable, idle, activityIn, presetIn, extensionIn}
 use Rattle.rules.specs.Transfer.{takePuts, sent, shut, fresh}
 use Rattle.rules.specs.Files.{opened, writeProtected, deleteProtected, readProtected}
@@ -29,12 +29,14 @@ use Rattle.laws.specs.Addresses.{Shape, Lies, data-is}
 use Rattle.chains.specs.Addresses.{adr, data-adr}
 use Rattle.chains.specs.Tally.{tally, flat, tally-head, tally-append, tally-one}
 use Rattle.chains.specs.Chain.{setLast, length-pieces}
-use Rattle.demands.specs.Ledger.{Call, setting, extending, asking, blockOf, File, noFile, entryOf, Block, closed, listing, reading, writing, Ledger, file, block, fcb, Request, asks, Fate, denied, granted, Sought, nowhere, slot, later, onSought, seek, fileNamed, vacantSlot, activity, busy, setBlock, setFile, setFree, putInto, withLast, withNew, withMark, withName, newFile, attributes, loaded, taken, transferred, openedToRead, openedToWrite, shutBlock, rewound, directoryOpened, shownNext, fetched, deleted, renamed, performed, called, ended, edits, fate, reply, gives, after, secsOf}
+use Rattle.chains.specs.Walk.{dataOf}
+use Rattle.demands.specs.Ledger.{Call, setting, extending, asking, blockOf, File, noFile, entryOf, Block, closed, listing, reading, writing, Ledger, file, block, fcb, Request, asks, Fate, denied, granted, Sought, nowhere, slot, later, onSought, seek, fileNamed, vacantSlot, activity, busy, setBlock, setFile, setFree, putInto, withLast, withNew, withMark, withName, newFile, unusedSlots, addSector, attributes, loaded, taken, transferred, grown, openedToRead, openedToWrite, shutBlock, rewound, directoryOpened, shownNext, fetched, deleted, renamed, performed, called, ended, edits, fate, reply, gives, after, secsOf}
 use Rattle.demands.specs.Diskette.{fcbsFrom, ledgerOf}
 use Rattle.demands.specs.Service.{Service, Machine, Entry, answers, gave, next as after-call, entry, run, log}
 use Rattle.demands.specs.History.{noted, then, history, scenes, Told, pending, asShown, shownFrom, shown, content, filesOn}
 use Rattle.demands.specs.Demands.{Start, lastTrackOf, perTrackOf, begun, Demand3}
 use Rattle.met.specs.Relation.{Agrees}
+use Rattle.met.specs.Unused.{length-unused}
 use Rattle.met.specs.Calls.{extension-length}
 use Rattle.met.specs.Runs.{start-shape, start-fine}
 
@@ -63,9 +65,8 @@ pub record LikeForm (M S : ℕ) (m m′ : List ℕ) : Type 0 where
   pub long : length m ≡ length m′
   pub bytes : (i : ℕ) → LikeByte M S i (getD m i 0) (getD m′ i 0)
 
--- a slot: all but its sectors, and its bytes 13-18, which name them
+-- a slot: all but its place, its sectors, and its bytes 13-18, which name them
 pub record Twin (f f′ : File) : Type 0 where
-  pub at : f .at ≡ f′ .at
   pub name : f .name ≡ f′ .name
   pub mode : f .mode ≡ f′ .mode
   pub date : f .date ≡ f′ .date
@@ -87,7 +88,7 @@ pub record Long (f f′ : File) : Type 0 where
   pub ends′ : length (f′ .ends) ≡ 6
   pub date : length (f .date) ≡ 5
 
--- LEDGERS ALIKE: they differ only in which sectors are whose, in the image of the start, and in what free sectors hold
+-- LEDGERS ALIKE: they differ only in which sectors are whose, the directory's too, in the image of the start, and in what free sectors hold
 pub record Alike (M S : ℕ) (a a′ : Ledger) : Type 0 where
   pub free : length (a .free) ≡ length (a′ .free)
   pub frees : Each (InData M S) (a .free)
@@ -110,6 +111,17 @@ at-set R d (v ∷ xs) (w ∷ ys) c h zero x y r zero = r
 at-set R d (v ∷ xs) (w ∷ ys) c h zero x y r (suc s) = h (suc s)
 at-set R d (v ∷ xs) (w ∷ ys) c h (suc t) x y r zero = h 0
 at-set R d (v ∷ xs) (w ∷ ys) c h (suc t) x y r (suc s) = at-set (λ i. R (suc i)) d xs ys (omega arith) (λ i. h (suc i)) t x y r s
+
+at-more : {A : Type 0} (R : ℕ → A → A → Type 0) (d : A) (xs ys us vs : List A) → length xs ≡ length ys
+    → ((s : ℕ) → s < length xs → R s (getD xs s d) (getD ys s d)) → ((s : ℕ) → R (length xs + s) (getD us s d) (getD vs s d))
+    → (s : ℕ) → R s (getD (xs ++ us) s d) (getD (ys ++ vs) s d)
+at-more R d [] [] us vs c h g s = subst (λ (k : ℕ). R k (getD us s d) (getD vs s d)) (omega arith) (g s)
+at-more R d [] (y ∷ ys) us vs c h g s = absurd (omega arith)
+at-more R d (x ∷ xs) [] us vs c h g s = absurd (omega arith)
+at-more R d (x ∷ xs) (y ∷ ys) us vs c h g zero = h 0 (omega arith)
+at-more R d (x ∷ xs) (y ∷ ys) us vs c h g (suc s) =
+    at-more (λ i. R (suc i)) d xs ys us vs (omega arith) (λ i b. h (suc i) (omega arith))
+    (λ i. subst (λ (k : ℕ). R k (getD us i d) (getD vs i d)) (omega arith) (g i)) s
 
 at-over : (R : ℕ → ℕ → ℕ → Type 0) (m m′ : List ℕ) (p : ℕ) (vs vs′ : List ℕ) → length m ≡ length m′ → length vs ≡ length vs′
     → ((i : ℕ) → R i (getD m i 0) (getD m′ i 0)) → ((j : ℕ) → j < length vs → R (p + j) (getD vs j 0) (getD vs′ j 0))
@@ -166,6 +178,9 @@ buffer-unread i h = record { low = λ x. omega arith; date = λ x y. omega arith
 ends-unread : (i : ℕ) → 17 ≤ i → i ≤ 22 → Unread i
 ends-unread i h k = record { low = λ x. omega arith; date = λ x y. omega arith; position = λ x y. omega arith; rename = λ x y. omega arith }
 
+place-unread : (i : ℕ) → 47 ≤ i → i ≤ 49 → Unread i
+place-unread i h k = record { low = λ x. omega arith; date = λ x y. omega arith; position = λ x y. omega arith; rename = λ x y. omega arith }
+
 module _ (M S : ℕ) where
   over-alike : (i : ℕ) {m m′ vs vs′ : List ℕ} → Pieces M S i vs vs′ → LikeForm M S m m′ → LikeForm M S (over m (0 + i) vs) (over m′ (0 + i) vs′)
   over-alike i {m} {m′} {vs} {vs′} p l = record {
@@ -205,6 +220,10 @@ module _ (M S : ℕ) where
   piece-ends x y w x′ y′ w′ =
       piece-unread 17 (six x y w) (six x′ y′ w′) (length-six x y w ∙ sym (length-six x′ y′ w′))
       (λ j b. ends-unread (17 + j) (omega arith) (omega (arith, length-six x y w)))
+
+  piece-place : (o o′ : ℕ) → Pieces M S 47 (placeOf S o) (placeOf S o′)
+  unfolding placeOf two one
+  piece-place o o′ = piece-unread 47 (placeOf S o) (placeOf S o′) refl (λ j b. place-unread (47 + j) (omega arith) (omega arith))
 
   piece-zeros : (c : ℕ) → Pieces M S 30 (zeros c) (zeros c)
   piece-zeros c = piece-same 30 (zeros c) (zeros c) refl (λ j b d. omega (arith, zeros-at c j))
@@ -355,7 +374,7 @@ module _ (M S : ℕ) (f f′ : File) (l : LikeFile M S f f′) where
 
   like-last : (d : List ℕ) → LikeFile M S (withLast f d) (withLast f′ d)
   like-last d = record {
-    twin = record { at = t .at; name = t .name; mode = t .mode; date = t .date; recs = t .recs; body = λ i. setLast (t .body i) d };
+    twin = record { name = t .name; mode = t .mode; date = t .date; recs = t .recs; body = λ i. setLast (t .body i) d };
     size = l .size;
     secs = l .secs;
     secs′ = l .secs′;
@@ -364,7 +383,6 @@ module _ (M S : ℕ) (f f′ : File) (l : LikeFile M S f f′) where
   like-new : (k k′ : ℕ) → InData M S k → InData M S k′ → LikeFile M S (withNew S f k) (withNew S f′ k′)
   like-new k k′ h h′ = record {
     twin = record {
-      at = t .at;
       name = t .name;
       mode = t .mode;
       date = t .date;
@@ -378,7 +396,7 @@ module _ (M S : ℕ) (f f′ : File) (l : LikeFile M S f f′) where
 
   like-mark : LikeFile M S (withMark f) (withMark f′)
   like-mark = record {
-    twin = record { at = t .at; name = λ i. set (t .name i) 0 255; mode = t .mode; date = t .date; recs = refl; body = refl };
+    twin = record { name = λ i. set (t .name i) 0 255; mode = t .mode; date = t .date; recs = refl; body = refl };
     size = refl;
     secs = tt;
     secs′ = tt;
@@ -386,19 +404,32 @@ module _ (M S : ℕ) (f f′ : File) (l : LikeFile M S f f′) where
 
   like-name : (nm : List ℕ) → LikeFile M S (withName f nm) (withName f′ nm)
   like-name nm = record {
-    twin = record { at = t .at; name = refl; mode = t .mode; date = t .date; recs = t .recs; body = t .body };
+    twin = record { name = refl; mode = t .mode; date = t .date; recs = t .recs; body = t .body };
     size = l .size;
     secs = l .secs;
     secs′ = l .secs′;
   }
 
-  like-made : (nm date : List ℕ) → LikeFile M S (newFile (f .at) nm date) (newFile (f′ .at) nm date)
-  like-made nm date = record {
-    twin = record { at = t .at; name = refl; mode = refl; date = refl; recs = refl; body = refl };
-    size = refl;
-    secs = tt;
-    secs′ = tt;
-  }
+like-made : (M S o o′ : ℕ) (nm date : List ℕ) → LikeFile M S (newFile o nm date) (newFile o′ nm date)
+like-made M S o o′ nm date = record {
+  twin = record { name = refl; mode = refl; date = refl; recs = refl; body = refl };
+  size = refl;
+  secs = tt;
+  secs′ = tt;
+}
+
+-- slots that were never used, or none
+like-unused : (M S o o′ n s : ℕ) → LikeFile M S (getD (unusedSlots o n) s noFile) (getD (unusedSlots o′ n) s noFile)
+unfolding unusedSlots
+like-unused M S o o′ zero s = record { twin = record { name = refl; mode = refl; date = refl; recs = refl; body = refl }; size = refl; secs = tt; secs′ = tt }
+like-unused M S o o′ (suc n) zero = record { twin = record { name = refl; mode = refl; date = refl; recs = refl; body = refl }; size = refl; secs = tt; secs′ = tt }
+like-unused M S o o′ (suc n) (suc s) = like-unused M S (o + 24) (o′ + 24) n s
+
+long-unused : (o o′ n s : ℕ) → s < n → Long (getD (unusedSlots o n) s noFile) (getD (unusedSlots o′ n) s noFile)
+unfolding unusedSlots zeros
+long-unused o o′ zero s h = absurd (omega arith)
+long-unused o o′ (suc n) zero h = record { name = refl; mode = refl; ends = refl; ends′ = refl; date = refl }
+long-unused o o′ (suc n) (suc s) h = long-unused (o + 24) (o′ + 24) n s (omega arith)
 
 module _ (f f′ : File) (g : Long f f′) where
   long-last : (d : List ℕ) → Long (withLast f d) (withLast f′ d)
@@ -452,6 +483,35 @@ module _ (M S : ℕ) (a a′ : Ledger) (r : Alike M S a a′) where
   alike-file : (s : ℕ) (f f′ : File) (n : ℕ) (b b′ : Block) → LikeFile M S f f′ → (s < length (a .slots) → Long f f′) → b ≡ b′
       → Alike M S (setFile a s f n b) (setFile a′ s f′ n b′)
   alike-file s f f′ n b b′ l g e = alike-free (a .free) (a′ .free) (a .spare) (a′ .spare) s f f′ n b b′ (r .free) (r .frees) (r .frees′) l g e
+
+  -- the directory grows, in each by another sector
+  alike-grown : (k k′ : ℕ) (ks ks′ : List ℕ) (f f′ : File) (n : ℕ) (b b′ : Block) → length ks ≡ length ks′ → Each (InData M S) ks → Each (InData M S) ks′
+      → LikeFile M S f f′ → Long f f′ → b ≡ b′ → Alike M S (addSector a k ks f n b) (addSector a′ k′ ks′ f′ n b′)
+  alike-grown k k′ ks ks′ f f′ n b b′ c d d′ l g e =
+      let us = f ∷ unusedSlots (firstSlotOf k + 24) 9 in
+      let us′ = f′ ∷ unusedSlots (firstSlotOf k′ + 24) 9 in
+      record {
+        free = c;
+        frees = d;
+        frees′ = d′;
+        count = length-append (a .slots) us
+            ∙ omega (arith, r .count, length-unused (firstSlotOf k + 24) 9, length-unused (firstSlotOf k′ + 24) 9) ∙ sym (length-append (a′ .slots) us′);
+        files = at-more (λ (t : ℕ). LikeFile M S) noFile (a .slots) (a′ .slots) us us′ (r .count) (λ s h. r .files s) new;
+        long = λ s h. at-more (λ (t : ℕ) (x y : File). t < length (a .slots) + 10 → Long x y) noFile (a .slots) (a′ .slots) us us′ (r .count)
+            (λ t u v. r .long t u) long (s) (omega (arith, h, length-append (a .slots) us, length-unused (firstSlotOf k + 24) 9));
+        blocks = λ i. set (r .blocks i) n (e i);
+        number = r .number;
+        fcbs = r .fcbs;
+      }
+    where
+      new : (s : ℕ) → LikeFile M S (getD (f ∷ unusedSlots (firstSlotOf k + 24) 9) s noFile) (getD (f′ ∷ unusedSlots (firstSlotOf k′ + 24) 9) s noFile)
+      new zero = l
+      new (suc s) = like-unused M S (firstSlotOf k + 24) (firstSlotOf k′ + 24) 9 s
+
+      long : (s : ℕ) → length (a .slots) + s < length (a .slots) + 10
+          → Long (getD (f ∷ unusedSlots (firstSlotOf k + 24) 9) s noFile) (getD (f′ ∷ unusedSlots (firstSlotOf k′ + 24) 9) s noFile)
+      long zero h = g
+      long (suc s) h = long-unused (firstSlotOf k + 24) (firstSlotOf k′ + 24) 9 s (omega arith)
 
   alike-puts : (n : ℕ) (ps ps′ : List Put) → LikePuts M S ps ps′ → Alike M S (putInto a n ps) (putInto a′ n ps′)
   alike-puts n ps ps′ p = record {
@@ -592,14 +652,14 @@ module _ (M S : ℕ) (z : Shape M S) (a a′ : Ledger) (r : Alike M S a a′) (n
       (sent-alike 255))
       (accepted refl (alike-block M S a a′ r n _ _ refl) (sent-alike (4 + length ub))))
 
-  opened-alike : (act o o′ : ℕ) (e e′ : List ℕ) → o ≡ o′ → Pieces M S 4 e e′ → LikePuts M S (opened act o e) (opened act o′ e′)
+  opened-alike : (act o o′ : ℕ) (e e′ : List ℕ) → Pieces M S 4 e e′ → LikePuts M S (opened S act o e) (opened S act o′ e′)
   unfolding opened
-  opened-alike act o o′ e e′ h p =
+  opened-alike act o o′ e e′ p =
       next 4 p
       (next 0 (piece-one M S 0 0 (omega arith))
       (next 30 (piece-zeros M S 6)
       (next 2 (piece-one M S 2 act (omega arith))
-      (next 47 (piece-behind M S 47 _ _ (omega arith) (ap placeOf h))
+      (next 47 (piece-place M S o o′)
       (next 59 (piece-one M S 59 255 (omega arith)) none)))))
 
   open-read-alike : L (openedToRead M S a n q) (openedToRead M S a′ n q′)
@@ -609,19 +669,33 @@ module _ (M S : ℕ) (z : Shape M S) (a a′ : Ledger) (r : Alike M S a a′) (n
       (λ _. like-sought M S (fileNamed (q .name) (a .slots)) _ _ _ _ _ (named-alike (q .name)) (refused refl)
       (λ s. like-pick M S (readProtected (attributes a s)) _ _ _ _ _ (ap readProtected (mode-alike s)) (λ _. refused refl)
       (like-pick M S (busy false s (a .blocks) 8) _ _ _ _ _ (busy-alike false s) (λ _. refused refl)
-      (accepted refl (alike-block M S a a′ r n _ _ refl) (opened-alike 1 _ _ _ _ (r .files s .twin .at) (entry-alike M S a a′ r s))))))
+      (accepted refl (alike-block M S a a′ r n _ _ refl) (opened-alike 1 _ _ _ _ (entry-alike M S a a′ r s))))))
       (refused refl)
+
+  grow-alike : length (q .name) ≡ 11 → length (q .date) ≡ 3 → (ks ks′ : List ℕ) → length ks ≡ length ks′ → Each (InData M S) ks → Each (InData M S) ks′
+      → L (grown M S a n q ks) (grown M S a′ n q′ ks′)
+  grow-alike ln ld [] [] c h h′ = refused refl
+  grow-alike ln ld [] (k′ ∷ ks′) c h h′ = absurd (omega arith)
+  grow-alike ln ld (k ∷ ks) [] c h h′ = absurd (omega arith)
+  grow-alike ln ld (k ∷ ks) (k′ ∷ ks′) c h h′ =
+      let l = like-made M S (firstSlotOf k) (firstSlotOf k′) (q .name) (q .date) in
+      let g = long-made (firstSlotOf k) (firstSlotOf k′) (q .name) (q .date) ln ld in
+      accepted refl
+      (alike-grown M S a a′ r k k′ ks ks′ _ _ n (writing (length (a .slots)) []) (writing (length (a′ .slots)) []) (omega arith) (h .1) (h′ .1) l g
+      (ap (λ (s : ℕ). writing s []) (r .count)))
+      (opened-alike 2 _ _ _ _ (piece-entry M S _ _ l g))
 
   open-write-alike : length (q .name) ≡ 11 → length (q .date) ≡ 3 → L (openedToWrite M S a n q) (openedToWrite M S a′ n q′)
   unfolding openedToWrite
   open-write-alike ln ld =
       like-pick M S (legal (q .name) 0) _ _ _ _ _ refl
       (λ _. like-sought M S (fileNamed (q .name) (a .slots)) _ _ _ _ _ (named-alike (q .name))
-      (like-sought M S (vacantSlot (a .slots)) _ _ _ _ _ (seek-alike M S (λ x. vacant x 0) (a .slots) (a′ .slots) (r .count) (r .files)) (refused refl)
+      (like-sought M S (vacantSlot (a .slots)) _ _ _ _ _ (seek-alike M S (λ x. vacant x 0) (a .slots) (a′ .slots) (r .count) (r .files))
+      (grow-alike ln ld (a .free) (a′ .free) (r .free) (r .frees) (r .frees′))
       (λ s.
-      let l = like-made M S (file a s) (file a′ s) (r .files s) (q .name) (q .date) in
+      let l = like-made M S ((file a s) .at) ((file a′ s) .at) (q .name) (q .date) in
       let g = long-made ((file a s) .at) ((file a′ s) .at) (q .name) (q .date) ln ld in
-      accepted refl (alike-file M S a a′ r s _ _ n (writing s []) _ l (λ b. g) refl) (opened-alike 2 _ _ _ _ (l .twin .at) (piece-entry M S _ _ l g))))
+      accepted refl (alike-file M S a a′ r s _ _ n (writing s []) _ l (λ b. g) refl) (opened-alike 2 _ _ _ _ (piece-entry M S _ _ l g))))
       (λ s. refused refl))
       (refused refl)
 
@@ -657,7 +731,7 @@ module _ (M S : ℕ) (z : Shape M S) (a a′ : Ledger) (r : Alike M S a a′) (n
   list-alike (listing p) =
       like-pick M S (ltb p (length (a .slots))) _ _ _ _ _ (ap (ltb p) (r .count))
       (λ _. accepted refl (alike-block M S a a′ r n _ _ refl)
-      (next 47 (piece-behind M S 47 _ _ (omega arith) (ap placeOf (r .files p .twin .at))) (next 4 (entry-alike M S a a′ r p) none)))
+      (next 47 (piece-place M S _ _) (next 4 (entry-alike M S a a′ r p) none)))
       (refused refl)
   list-alike (reading s j i) = refused refl
   list-alike (writing s ub) = refused refl
@@ -865,11 +939,10 @@ each-tally : (P : ℕ → Type 0) (xs : List ℕ) → ((x : ℕ) → 1 ≤ tally
 each-tally P [] h = tt
 each-tally P (x ∷ xs) h = (h x (tally-head x xs), each-tally P xs (λ y t. h y (omega arith)))
 
-sited : (M S : ℕ) (ds img tab : List ℕ) (a : Ledger) → Agrees M S ds img tab a → Sited M S a
-sited M S ds img tab a r = record {
-  frees = each-tally (InData M S) (a .free) (λ x t. in-data x (omega (arith, tally-append x (a .free) (flat secsOf (a .slots)))));
-  secs = λ s h. each-tally (InData M S) ((file a s) .secs)
-      (λ x t. in-data x (omega (arith, tally-append x (a .free) (flat secsOf (a .slots)), tally-one secsOf x (a .slots) s noFile h)));
+sited : (M S : ℕ) (img tab : List ℕ) (a : Ledger) → Agrees M S img tab a → Sited M S a
+sited M S img tab a r = record {
+  frees = each-tally (InData M S) (a .free) (λ x t. in-data x (omega (arith, t, all x)));
+  secs = λ s h. each-tally (InData M S) ((file a s) .secs) (λ x t. in-data x (omega (arith, t, all x, tally-one secsOf x (a .slots) s noFile h)));
   long = λ s h.
       let g = r .holds s (omega (arith, r .ns)) in
       record {
@@ -882,7 +955,13 @@ sited M S ds img tab a r = record {
   size = λ s h. ap length (r .holds s (omega (arith, r .ns)) .body) ∙ length-pieces 4 252 img ((file a s) .secs);
 }
   where
-    in-data : (x : ℕ) → 1 ≤ tally x (a .free ++ flat secsOf (a .slots)) → InData M S x
+    everything : List ℕ
+    everything = a .free ++ (dataOf S (a .dir) ++ flat secsOf (a .slots))
+
+    all : (x : ℕ) → tally x (a .free) + tally x (flat secsOf (a .slots)) ≤ tally x everything
+    all x = omega (arith, tally-append x (a .free) (dataOf S (a .dir) ++ flat secsOf (a .slots)), tally-append x (dataOf S (a .dir)) (flat secsOf (a .slots)))
+
+    in-data : (x : ℕ) → 1 ≤ tally x everything → InData M S x
     in-data x t = (r .once .low x t, r .once .high x t)
 
 -- of the same shape, as many free sectors, the same slots, the same table of bytes
@@ -913,7 +992,7 @@ sited-alike M S a a′ g g′ fr c t b e sm = record {
   frees′ = g′ .frees;
   count = c;
   files = λ s. by-slot (LikeFile M S) (a .slots) (a′ .slots) c s
-      (record { twin = record { at = refl; name = refl; mode = refl; date = refl; recs = refl; body = refl }; size = refl; secs = tt; secs′ = tt })
+      (record { twin = record { name = refl; mode = refl; date = refl; recs = refl; body = refl }; size = refl; secs = tt; secs′ = tt })
       (λ h. record {
         twin = t s h;
         size = sym (g .size s h) ∙ ap length (t s h .body) ∙ g′ .size s (omega arith);
@@ -939,8 +1018,8 @@ module _ (x x′ : Machine) (s : Start x) (s′ : Start x′) (t : Twins x x′)
   pub starts-alike : Alike M S (begun x) (begun x′)
   unfolding ledgerOf
   starts-alike =
-      let g′ = sited (lastTrackOf x′) (perTrackOf x′) _ (x′ .img) (x′ .tab) (begun x′) (start-fine x′ s′ .agrees) in
-      sited-alike M S (begun x) (begun x′) (sited M S _ (x .img) (x .tab) (begun x) (start-fine x s .agrees))
+      let g′ = sited (lastTrackOf x′) (perTrackOf x′) (x′ .img) (x′ .tab) (begun x′) (start-fine x′ s′ .agrees) in
+      sited-alike M S (begun x) (begun x′) (sited M S (x .img) (x .tab) (begun x) (start-fine x s .agrees))
       (subst (λ (m : ℕ). Sited m S (begun x′)) (sym (t .tracks)) (subst (λ (p : ℕ). Sited (lastTrackOf x′) p (begun x′)) (sym (t .sectors)) g′)) (t .free) (t .count) (t .files) refl
       (ap (λ (m : List ℕ). fcbsFrom m 0 8) (t .table)) (λ n. small-forms (x .tab) (t .bytes) 0 8 n)
 
@@ -952,7 +1031,7 @@ module _ (x x′ : Machine) (s : Start x) (s′ : Start x′) (t : Twins x x′)
         (subst (λ (m : ℕ). Told m S (scenes m S (begun x′) (log σ x′ cs))) (sym (t .tracks))
         (subst (λ (p : ℕ). Told (lastTrackOf x′) p (scenes (lastTrackOf x′) p (begun x′) (log σ x′ cs))) (sym (t .sectors)) (d x′ s′ cs .answered)))
 
-    pub twins-files : filesOn (perTrackOf x) (run σ x cs .img) (run σ x cs .tab) ≡ filesOn (perTrackOf x′) (run σ x′ cs .img) (run σ x′ cs .tab)
+    pub twins-files : filesOn M S (run σ x cs .img) (run σ x cs .tab) ≡ filesOn (lastTrackOf x′) (perTrackOf x′) (run σ x′ cs .img) (run σ x′ cs .tab)
     twins-files =
         d x s cs .files
         ∙ shown-only M S (start-shape x s) (log σ x cs) (bytes-log σ cs x h) (begun x) (begun x′) starts-alike

@@ -18,7 +18,6 @@ use Rattle.laws.specs.Bytes.{length-part}
 use Rattle.laws.specs.Addresses.{Shape}
 use Rattle.chains.specs.Addresses.{absurd-bool}
 use Rattle.chains.specs.Chain.{contents}
-use Rattle.chains.specs.Directory.{Listing}
 use Rattle.demands.specs.Ledger.{Call, setting, extending, asking, File, noFile, Block, closed, reading, Ledger, Request, asks, Fate, denied, granted, reply, gives, activity, block, file, setBlock, loaded, transferred, rewound, performed, called}
 use Rattle.met.specs.Relation.{opens, Reading, Keeps}
 use Rattle.demands.specs.Service.{flex, Machine, answers, gave, next, entry, log}
@@ -65,10 +64,10 @@ pub data Fetched (a : Ledger) (n s p : ℕ) (c : List ℕ) : Fate → Type 0 whe
   byte : (v : ℕ) (a′ : Ledger) (ps : List Put) → p < length c → v ≡ getD c p 0 → At a′ n s (p + 1) c → Fetched a n s p c (granted v a′ ps)
   over : length c ≤ p → Fetched a n s p c (denied 8)
 
-module _ (M S : ℕ) (z : Shape M S) (ds : List ℕ) (d : Listing S ds) where
-  module _ (x : Machine) (a : Ledger) (g : Fine M S ds x a) (n s p : ℕ) (c : List ℕ) (hn : n < 8) (t : At a n s p c) (q : Request) where
-    w : Reading S (slotsOf ds) (x .tab) n (file a s) s (t .j) (t .i)
-    w = subst (λ (b : Block). Keeps S (slotsOf ds) (x .tab) n (a .slots) b) (t .reader) (g .agrees .keeps n hn)
+module _ (M S : ℕ) (z : Shape M S) where
+  module _ (x : Machine) (a : Ledger) (g : Fine M S x a) (n s p : ℕ) (c : List ℕ) (hn : n < 8) (t : At a n s p c) (q : Request) where
+    w : Reading S (slotsOf (a .dir)) (x .tab) n (file a s) s (t .j) (t .i)
+    w = subst (λ (b : Block). Keeps S (slotsOf (a .dir)) (x .tab) n (a .slots) b) (t .reader) (g .agrees .keeps n hn)
 
     bd : (file a s) .body ≡ contents (x .img) ((file a s) .secs)
     bd = g .agrees .holds s (w .slot) .body
@@ -135,7 +134,7 @@ module _ (M S : ℕ) (z : Shape M S) (ds : List ℕ) (d : Listing S ds) where
     bytes = ap (λ (fs : List File). concat ((getD fs s noFile) .body)) (k .slots) ∙ t .bytes;
   }
 
-  module _ (x : Machine) (a : Ledger) (g : Fine M S ds x a) (n s p : ℕ) (l : List ℕ) (hn : n < 8) (t : At a n s p l) where
+  module _ (x : Machine) (a : Ledger) (g : Fine M S x a) (n s p : ℕ) (l : List ℕ) (hn : n < 8) (t : At a n s p l) where
     -- what the call leaves, and what it is answered, where it is one of block n
     abbrev Now : Call → Type 0
     Now c = At (then M S a (entry flex x c)) n s (readTo n p l (sceneOf x a c)) l
@@ -149,20 +148,20 @@ module _ (M S : ℕ) (z : Shape M S) (ds : List ℕ) (d : Listing S ds) where
     other : (m b : ℕ) → m ≢ n → Now (asking m b)
     other m b ne =
         rw (ne-eqb m n ne)
-        (kept-by (then M S a (entry flex x (asking m b))) (other-call M S z ds d x a g m b n s hn ne (ap opens (t .reader))), (λ q. absurd-bool q refl), λ q. absurd-bool q refl)
+        (kept-by (then M S a (entry flex x (asking m b))) (other-call M S z x a g m b n s hn ne (ap opens (t .reader))), (λ q. absurd-bool q refl), λ q. absurd-bool q refl)
 
-    rd : Reading S (slotsOf ds) (x .tab) n (file a s) s (t .j) (t .i)
-    rd = subst (λ (y : Block). Keeps S (slotsOf ds) (x .tab) n (a .slots) y) (t .reader) (g .agrees .keeps n hn)
+    rd : Reading S (slotsOf (a .dir)) (x .tab) n (file a s) s (t .j) (t .i)
+    rd = subst (λ (y : Block). Keeps S (slotsOf (a .dir)) (x .tab) n (a .slots) y) (t .reader) (g .agrees .keeps n hn)
 
     dr : (b : ℕ) → asks a n b .drive ≡ 0
-    dr b = ap (λ (y : Request). y .drive) (sym (asks-is M S z ds d x a g n b hn)) ∙ rd .drive
+    dr b = ap (λ (y : Request). y .drive) (sym (asks-is M S z x a g n b hn)) ∙ rd .drive
 
     -- its own, a byte
     own-byte : (b : ℕ) → asks a n b .code ≡ 0 → Now (asking n b)
     own-byte b k =
         let φ : called M S a n (asks a n b) ≡ transferred M S a n (asks a n b) (reading s (t .j) (t .i)) =
         called-zero M S a n (asks a n b) (reading s (t .j) (t .i)) k (dr b) (t .reader) fits-one in
-        let st = asked M S z ds d x a g n b hn in
+        let st = asked M S z x a g n b hn in
         rw (eq-eqb n n refl, k)
         (by (called M S a n (asks a n b)) (st .ans) (st .byte) (likewise-asked M S x a n b st)
         (subst (Fetched a n s p l) (sym φ) (fetched x a g n s p l hn t (asks a n b))))
@@ -188,7 +187,7 @@ module _ (M S : ℕ) (z : Shape M S) (ds : List ℕ) (d : Listing S ds) where
         let φ : called M S a n (asks a n b) ≡ rewound M S a n (asks a n b) (reading s (t .j) (t .i)) =
         called-of M S a n (asks a n b) 5 k refl (dr b) (ap (λ (y : Block). fits 5 (activity y)) (t .reader) ∙ fits-five)
         ∙ (rw (k, t .reader) refl) in
-        let st = asked M S z ds d x a g n b hn in
+        let st = asked M S z x a g n b hn in
         let an : answers flex x (asking n b) ≡ 0 = st .ans ∙ ap reply φ in
         let lk = subst (λ (ψ : Fate). Likewise (ledgerBy a ψ) (then M S a (entry flex x (asking n b)))) φ (likewise-asked M S x a n b st) in
         rw (eq-eqb n n refl, k) (
@@ -230,10 +229,10 @@ module _ (M S : ℕ) (z : Shape M S) (ds : List ℕ) (d : Listing S ds) where
         go (no e) = other m b e
 
   -- READING: whatever else is called, the bytes come in order, and then 8; after a rewind from the first on
-  pub reads : (cs : List Call) (x : Machine) (a : Ledger) → Fine M S ds x a → (n s p : ℕ) (l : List ℕ) → n < 8 → At a n s p l
+  pub reads : (cs : List Call) (x : Machine) (a : Ledger) → Fine M S x a → (n s p : ℕ) (l : List ℕ) → n < 8 → At a n s p l
       → Only n (0 ∷ 5 ∷ []) (scenes M S a (log flex x cs)) → Reads n p l (scenes M S a (log flex x cs))
   unfolding log scenes entry
   reads [] x a g n s p l hn t op = tt
   reads (c ∷ cs) x a g n s p l hn t op =
       let w = read-one x a g n s p l hn t c (op .0, tt) in
-      (w .1, w .2, reads cs (next flex x c) (then M S a (entry flex x c)) (step M S z ds d x a g c .fine) n s (readTo n p l (sceneOf x a c)) l hn (w .0) (op .1))
+      (w .1, w .2, reads cs (next flex x c) (then M S a (entry flex x c)) (step M S z x a g c .fine) n s (readTo n p l (sceneOf x a c)) l hn (w .0) (op .1))

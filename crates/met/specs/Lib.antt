@@ -8,14 +8,17 @@ pub mod Relation
 pub mod Quiet
 pub mod Meets
 pub mod Searches
+pub mod Unused
 pub mod Sectors
 pub mod Marks
 pub mod Picture
 -- every call meets its fate
 pub mod Reads
+pub mod Frees
 pub mod Fills
 pub mod Takes
 pub mod Opens
+pub mod Grows
 pub mod Removes
 pub mod Lists
 pub mod Calls

@@ -2,25 +2,24 @@
 use mathlib.Core.Path.{_≡_, refl, sym, ap, ap₂, _∙_, subst}
 use mathlib.Core.Bool.{Bool, true, false}
 use mathlib.Core.List.{List, [], _∷_}
-use Prim.Native.Nat.{ℕ, zero, suc, _+_, _*_, _/_, _%_, _<_}
+use Prim.Native.Nat.{ℕ, zero, suc, _+_, _*_, _%_, _<_}
 use native.Mathlib.Omega.{arith}
 use native.Mathlib.Decide.{decLt}
 use lib.ListN.{length, getD}
 use lib.Dec.{ltb}
 use borrow.Author.Tests.{lt-ltb, le-ltb}
-use Rattle.rules.specs.Bytes.{pick, wordAt, part, one, zeros, same}
+use Rattle.rules.specs.Bytes.{pick, wordAt, part, one, zeros, same, one, two}
 use Rattle.rules.specs.Stores.{Put, put, puts}
 use Rattle.rules.specs.Image.{index, isSector}
-use Rattle.rules.specs.Directory.{slotsOf, placeOf, placed}
+use Rattle.rules.specs.Directory.{slotsOf, placeOf}
 use Rattle.rules.specs.Outcome.{onSlot}
-use Rattle.rules.specs.Transfer.{slotIn}
 use Rattle.rules.specs.Files.{openDirectory, shown, nextSlot, readSector}
 use Rattle.rules.specs.declared.Lookup.the-variants.{At, Missing}
 use Rattle.laws.specs.Bytes.{part-is, length-part, length-zeros, same-refl, same-eq}
 use Rattle.laws.specs.Addresses.{Shape}
 use Rattle.chains.specs.Chain.{first-getD}
 use Rattle.laws.specs.Slots.{length-slots}
-use Rattle.chains.specs.Directory.{Listing, directory-is, slot-at, spot, spot-sector, placed-spot, behind}
+use Rattle.chains.specs.Directory.{directory-is, slot-at, spot, spot-sector, placed-spot, behind}
 use Rattle.laws.specs.Stores.{puts-off, puts-at}
 use Rattle.demands.specs.Ledger.{Block, closed, listing, Ledger, Request, Fate, denied, granted, setBlock, entryOf, directoryOpened, shownNext, fetched, request, file}
 use Rattle.met.specs.Relation.{tb, opens, Listed, Keeps, Agrees, tp-same}
@@ -28,7 +27,7 @@ use Rattle.met.specs.Quiet.{turned, shut-block, idle-quiet}
 use Rattle.met.specs.Meets.{Meets, meets-unless}
 use Rattle.met.specs.Picture.{entry-is, image-is}
 
-module _ (M S : ℕ) (z : Shape M S) (ds : List ℕ) (d : Listing S ds) (img tab : List ℕ) (a : Ledger) (r : Agrees M S ds img tab a) (n : ℕ) (hn : n < 8) where
+module _ (M S : ℕ) (z : Shape M S) (img tab : List ℕ) (a : Ledger) (r : Agrees M S img tab a) (n : ℕ) (hn : n < 8) where
   in-table : (k : ℕ) → k < 320 → 320 * n + k < length tab
   in-table k h = omega (arith, r .tlen)
 
@@ -36,13 +35,13 @@ module _ (M S : ℕ) (z : Shape M S) (ds : List ℕ) (d : Listing S ds) (img tab
   abbrev ps : List Put
   ps = put 2 (one 16) ∷ put 47 (zeros 3) ∷ []
 
-  pub open-directory-meets : (q : Request) → Meets M S ds img tab n openDirectory (directoryOpened M S a n q)
+  pub open-directory-meets : (q : Request) → Meets M S img tab n openDirectory (directoryOpened M S a n q)
   unfolding openDirectory one
   open-directory-meets q = (
     refl,
     refl,
     omega (arith, length-zeros 3),
-    shut-block M S z ds d img tab a r n hn (puts tab (320 * n) ps) (listing 0) (turned tab n ps (omega (arith, length-zeros 3))) refl refl
+    shut-block M S z img tab a r n hn (puts tab (320 * n) ps) (listing 0) (turned tab n ps (omega (arith, length-zeros 3))) refl refl
         (record {
           act = puts-at ps tab (320 * n) 0 0 (320 * n + 2) (omega arith) (omega arith) (omega arith) (in-table 2 (omega arith)) (omega arith);
           shown = omega arith;
@@ -53,89 +52,86 @@ module _ (M S : ℕ) (z : Shape M S) (ds : List ℕ) (d : Listing S ds) (img tab
 
   -- ---- 7: slot p is shown
   abbrev showing : ℕ → Fate
-  showing p = granted 0 (setBlock a n (listing (suc p))) (put 47 (placeOf ((file a p) .at)) ∷ put 4 (entryOf (file a p)) ∷ [])
+  showing p = granted 0 (setBlock a n (listing (suc p))) (put 47 (placeOf S ((file a p) .at)) ∷ put 4 (entryOf (file a p)) ∷ [])
 
-  module _ (p : ℕ) (act : tb tab n 2 ≡ 16) (hp : p < length (slotsOf ds)) where
+  module _ (p : ℕ) (act : tb tab n 2 ≡ 16) (hp : p < length (slotsOf (a .dir))) where
     abbrev o : ℕ
-    o = getD (slotsOf ds) p 0
+    o = getD (slotsOf (a .dir)) p 0
 
     abbrev qs : List Put
-    qs = put 47 (placeOf o) ∷ put 4 (part img o 24) ∷ []
+    qs = put 47 (placeOf S o) ∷ put 4 (part img o 24) ∷ []
 
-    show-meets : Meets M S ds img tab n (shown img o) (showing p)
-    unfolding shown placeOf
+    show-meets : Meets M S img tab n (shown img S o) (showing p)
+    unfolding shown placeOf two one
     show-meets = (
       refl,
-      ap₂ (λ (x : ℕ) (y : List ℕ). put 47 (placeOf x) ∷ put 4 y ∷ []) (sym (r .holds p hp .at)) (entry-is M S z ds d img tab a r p hp),
+      ap₂ (λ (x : ℕ) (y : List ℕ). put 47 (placeOf S x) ∷ put 4 y ∷ []) (sym (r .holds p hp .at)) (entry-is M S z img tab a r p hp),
       omega (arith, length-part img o 24),
-      shut-block M S z ds d img tab a r n hn (puts tab (320 * n) qs) (listing (suc p)) (turned tab n qs (omega (arith, length-part img o 24))) refl refl
+      shut-block M S z img tab a r n hn (puts tab (320 * n) qs) (listing (suc p)) (turned tab n qs (omega (arith, length-part img o 24))) refl refl
           (record {
             act = puts-off qs tab (320 * n) (320 * n + 2) (omega (arith, length-part img o 24)) ∙ act;
             shown = omega arith;
-            place = part-is (puts tab (320 * n) qs) (320 * n + 47) 3 (placeOf o) refl
+            place = part-is (puts tab (320 * n) qs) (320 * n + 47) 3 (placeOf S o) refl
                 (λ i b. ap (λ (x : ℕ). getD (puts tab (320 * n) qs) x 0) (omega arith) ∙ puts-at qs tab (320 * n) 0 i (320 * n + (47 + i)) (omega arith) b (omega arith) (in-table (47 + i) (omega arith)) (omega (arith, length-part img o 24)));
           }),
     )
 
   -- the first slot, and a first there is
-  first-slot : getD (slotsOf ds) 0 0 ≡ 1040
-  first-slot = slot-at ds 0 0 (d .some) (omega arith) ∙ omega (arith, d .head, first-getD ds)
+  first-slot : getD (slotsOf (a .dir)) 0 0 ≡ 1040
+  first-slot = slot-at (a .dir) 0 0 (r .listing .some) (omega arith) ∙ omega (arith, r .listing .head, first-getD (a .dir))
 
-  some-slots : 0 < length (slotsOf ds)
-  some-slots = omega (arith, length-slots ds, d .some)
+  some-slots : 0 < length (slotsOf (a .dir))
+  some-slots = omega (arith, length-slots (a .dir), r .listing .some)
 
   -- a slot's place is not 0,0,0
-  not-zero : (s : ℕ) → s < length (slotsOf ds) → same (placeOf (getD (slotsOf ds) s 0)) (zeros 3) ≡ false
-  unfolding placeOf zeros
-  not-zero s hs = go (same (placeOf (getD (slotsOf ds) s 0)) (zeros 3)) refl
+  not-zero : (s : ℕ) → s < length (slotsOf (a .dir)) → same (placeOf S (getD (slotsOf (a .dir)) s 0)) (zeros 3) ≡ false
+  unfolding placeOf two one zeros
+  not-zero s hs = go (same (placeOf S (getD (slotsOf (a .dir)) s 0)) (zeros 3)) refl
     where
-      go : (b : Bool) → same (placeOf (getD (slotsOf ds) s 0)) (zeros 3) ≡ b → b ≡ false
+      go : (b : Bool) → same (placeOf S (getD (slotsOf (a .dir)) s 0)) (zeros 3) ≡ b → b ≡ false
       go false e = refl
       go true e =
-          let w = spot S ds d s hs in
-          let v = spot-sector S ds s (getD (slotsOf ds) s 0) w in
-          let q : (getD (slotsOf ds) s 0 / 256 + 1) % 256 ≡ 0 =
-          ap (λ (l : List ℕ). getD l 1 0) (same-eq (placeOf (getD (slotsOf ds) s 0)) (zeros 3) e) in
-          let q2 : (w .k + 1) % 256 ≡ 0 = sym (ap (λ (x : ℕ). (x + 1) % 256) (v .0)) ∙ q in
-          absurd (omega (arith, q2, w .low, w .high, z .most-sectors))
+          let w = spot M S (a .dir) (r .listing) s hs in
+          let q : getD (slotsOf (a .dir)) s 0 % 256 ≡ 0 =
+          ap (λ (l : List ℕ). getD l 2 0) (same-eq (placeOf S (getD (slotsOf (a .dir)) s 0)) (zeros 3) e) in
+          absurd (omega (arith, q, spot-sector M S (a .dir) s (getD (slotsOf (a .dir)) s 0) w .1))
 
   pub next-slot-meets : (q : Request) (p : ℕ) → getD (a .blocks) n closed ≡ listing p
-      → Meets M S ds img tab n (nextSlot img tab S (320 * n)) (shownNext M S a n q (listing p))
+      → Meets M S img tab n (nextSlot img tab M S (320 * n)) (shownNext M S a n q (listing p))
   unfolding nextSlot
   next-slot-meets q zero e =
-      let k : Listed (slotsOf ds) tab n 0 = subst (λ (b : Block). Keeps S (slotsOf ds) tab n (a .slots) b) e (r .keeps n hn) in
-      rw (k .place, same-refl (zeros 3), directory-is M S z img ds d (r .dir) .0, lt-ltb 0 (length (a .slots)) (omega (arith, r .ns, some-slots)))
-      (subst (λ (x : ℕ). Meets M S ds img tab n (shown img x) (showing 0)) first-slot (show-meets 0 (k .act) some-slots))
+      let k : Listed S (slotsOf (a .dir)) tab n 0 = subst (λ (b : Block). Keeps S (slotsOf (a .dir)) tab n (a .slots) b) e (r .keeps n hn) in
+      rw (k .place, same-refl (zeros 3), directory-is M S z img (a .dir) (r .listing) (r .dir) .0, lt-ltb 0 (length (a .slots)) (omega (arith, r .ns, some-slots)))
+      (subst (λ (x : ℕ). Meets M S img tab n (shown img S x) (showing 0)) first-slot (show-meets 0 (k .act) some-slots))
   next-slot-meets q (suc s) e =
-      let k : Listed (slotsOf ds) tab n (suc s) = subst (λ (b : Block). Keeps S (slotsOf ds) tab n (a .slots) b) e (r .keeps n hn) in
-      let hs : s < length (slotsOf ds) = omega (arith, k .shown) in
-      let pl : slotIn img tab S (320 * n) ≡ At (getD (slotsOf ds) s 0) =
-      ap (λ (x : ℕ). placed img S (wordAt tab (320 * n + 47)) (getD tab x 0)) (omega arith)
-      ∙ placed-spot M S z img ds d (r .dir) s (getD (slotsOf ds) s 0) (spot S ds d s hs) tab (320 * n + 47) (k .place) in
-      rw (k .place, not-zero s hs, pl, behind M S z img ds d (r .dir) s hs) (go k (decLt (s + 1) (length (slotsOf ds))))
+      let k : Listed S (slotsOf (a .dir)) tab n (suc s) = subst (λ (b : Block). Keeps S (slotsOf (a .dir)) tab n (a .slots) b) e (r .keeps n hn) in
+      let hs : s < length (slotsOf (a .dir)) = omega (arith, k .shown) in
+      let pl = placed-spot M S z (a .dir) (r .listing) img (r .dir) s (getD (slotsOf (a .dir)) s 0) (spot M S (a .dir) (r .listing) s hs) in
+      let ds = directory-is M S z img (a .dir) (r .listing) (r .dir) .1 in
+      rw (k .place, not-zero s hs, pl, ds, behind M S z (a .dir) (r .listing) s hs) (go k (decLt (s + 1) (length (slotsOf (a .dir)))))
     where
-      go : Listed (slotsOf ds) tab n (suc s) → Dec (s + 1 < length (slotsOf ds))
-          → Meets M S ds img tab n (onSlot (pick (ltb (s + 1) (length (slotsOf ds))) (At (getD (slotsOf ds) (s + 1) 0)) Missing) 5 8 (λ next. shown img next))
+      go : Listed S (slotsOf (a .dir)) tab n (suc s) → Dec (s + 1 < length (slotsOf (a .dir)))
+          → Meets M S img tab n (onSlot (pick (ltb (s + 1) (length (slotsOf (a .dir)))) (At (getD (slotsOf (a .dir)) (s + 1) 0)) Missing) 5 8 (λ next. shown img S next))
           (pick (ltb (suc s) (length (a .slots))) (showing (suc s)) (denied 8))
       go k (yes h) =
-          rw (lt-ltb (s + 1) (length (slotsOf ds)) h, lt-ltb (suc s) (length (a .slots)) (omega (arith, r .ns)))
-          (subst (λ (x : ℕ). Meets M S ds img tab n (shown img (getD (slotsOf ds) x 0)) (showing (suc s))) (omega arith) (show-meets (suc s) (k .act) (omega arith)))
+          rw (lt-ltb (s + 1) (length (slotsOf (a .dir))) h, lt-ltb (suc s) (length (a .slots)) (omega (arith, r .ns)))
+          (subst (λ (x : ℕ). Meets M S img tab n (shown img S (getD (slotsOf (a .dir)) x 0)) (showing (suc s))) (omega arith) (show-meets (suc s) (k .act) (omega arith)))
       go k (no h) =
-          rw (le-ltb (s + 1) (length (slotsOf ds)) (omega arith), le-ltb (suc s) (length (a .slots)) (omega (arith, r .ns))) (refl, omega arith)
+          rw (le-ltb (s + 1) (length (slotsOf (a .dir))) (omega arith), le-ltb (suc s) (length (a .slots)) (omega (arith, r .ns))) (refl, omega arith)
 
   -- ---- 9
   pub read-sector-meets : (b : ℕ) → opens (getD (a .blocks) n closed) ≡ 0
-      → Meets M S ds img tab n (readSector img tab M S (320 * n)) (fetched M S a n (request tab (320 * n) b))
+      → Meets M S img tab n (readSector img tab M S (320 * n)) (fetched M S a n (request tab (320 * n) b))
   unfolding readSector fetched
   read-sector-meets b oz =
       let v = part img (256 * index S (wordAt tab (320 * n + 30))) 256 in
       let lv : length v ≡ 256 = length-part img (256 * index S (wordAt tab (320 * n + 30))) 256 in
       let ts = put 64 v ∷ [] in
-      meets-unless M S ds img tab n _ (isSector M S (wordAt tab (320 * n + 30))) 9 _ _ refl (omega arith)
+      meets-unless M S img tab n _ (isSector M S (wordAt tab (320 * n + 30))) 9 _ _ refl (omega arith)
       (λ h. (
         refl,
-        ap (λ (m : List ℕ). put 64 (part m (256 * index S (wordAt tab (320 * n + 30))) 256) ∷ []) (image-is M S z ds d img tab a r),
+        ap (λ (m : List ℕ). put 64 (part m (256 * index S (wordAt tab (320 * n + 30))) 256) ∷ []) (image-is M S z img tab a r),
         omega (arith, lv),
-        idle-quiet M S z ds d img tab a r n hn (puts tab (320 * n) ts) (turned tab n ts (omega (arith, lv))) oz (puts-off ts tab (320 * n) (320 * n + 2) (omega (arith, lv)))
+        idle-quiet M S z img tab a r n hn (puts tab (320 * n) ts) (turned tab n ts (omega (arith, lv))) oz (puts-off ts tab (320 * n) (320 * n + 2) (omega (arith, lv)))
             (tp-same tab (puts tab (320 * n) ts) n (λ i h. puts-off ts tab (320 * n) (320 * n + i) (omega (arith, lv, h)))),
       ))

@@ -9,7 +9,6 @@ use native.Mathlib.Omega.{arith}
 use Rattle.rules.specs.Stores.{stored, Put, put, puts}
 use Rattle.rules.specs.Outcome.{Outcome, refuse, done, Effect, settled, answer, given, onImage, onBlock}
 use Rattle.laws.specs.Addresses.{Shape}
-use Rattle.chains.specs.Directory.{Listing}
 use Rattle.laws.specs.Bytes.{length-one}
 use Rattle.laws.specs.Each.{Each, each-append}
 use Rattle.laws.specs.Stores.{Within, puts-append}
@@ -17,13 +16,13 @@ use Rattle.demands.specs.Ledger.{Ledger, Fate, denied, granted, ended, reply, g
 use Rattle.met.specs.Relation.{Agrees}
 use Rattle.met.specs.Quiet.{answered}
 
-module _ (M S : ℕ) (ds img tab : List ℕ) (n : ℕ) where
+module _ (M S : ℕ) (img tab : List ℕ) (n : ℕ) where
   -- the same number; or the same byte, the same bytes put into the block, and a ledger that image and table agree with
   abbrev pub Meets : Outcome → Fate → Type 0
   Meets (refuse e) (denied e′) = (e ≡ e′) × (e ≢ 0)
   Meets (refuse e) (granted b a qs) = ⊥
   Meets (done b ss ps) (denied e) = ⊥
-  Meets (done b ss ps) (granted b′ a qs) = (b ≡ b′) × (ps ≡ qs) × Each Within ps × Agrees M S ds (stored img ss) (puts tab (320 * n) ps) a
+  Meets (done b ss ps) (granted b′ a qs) = (b ≡ b′) × (ps ≡ qs) × Each Within ps × Agrees M S (stored img ss) (puts tab (320 * n) ps) a
 
   pub meets-pick : (u v : Bool) (x y : Outcome) (x′ y′ : Fate) → u ≡ v → (v ≡ true → Meets x x′) → (v ≡ false → Meets y y′)
       → Meets (pick u x y) (pick v x′ y′)
@@ -55,26 +54,26 @@ ledgerBy a (denied e) = a
 ledgerBy a (granted b a′ qs) = a′
 
 -- what the call leaves
-pub record Met (M S : ℕ) (ds img tab : List ℕ) (a : Ledger) (n : ℕ) (e : Effect) (φ : Fate) : Type 0 where
+pub record Met (M S : ℕ) (img tab : List ℕ) (a : Ledger) (n : ℕ) (e : Effect) (φ : Fate) : Type 0 where
   pub ans : answer e ≡ reply φ
   pub byte : given e ≡ gives φ
   pub sure : Sure φ
   pub laid : onBlock e ≡ putsBy φ
   pub within : Each Within (onBlock e)
-  pub rep : Agrees M S ds (stored img (onImage e)) (puts tab (320 * n) (onBlock e)) (ledgerBy a φ)
+  pub rep : Agrees M S (stored img (onImage e)) (puts tab (320 * n) (onBlock e)) (ledgerBy a φ)
 
-module _ (M S : ℕ) (z : Shape M S) (ds : List ℕ) (d : Listing S ds) (img tab : List ℕ) (a : Ledger) (r : Agrees M S ds img tab a) (n : ℕ) (hn : n < 8) where
+module _ (M S : ℕ) (z : Shape M S) (img tab : List ℕ) (a : Ledger) (r : Agrees M S img tab a) (n : ℕ) (hn : n < 8) where
   byte-within : (e : ℕ) → Each Within (put 1 (one e) ∷ [])
   byte-within e = (omega (arith, length-one e), tt)
 
-  pub settles : (o : Outcome) (φ : Fate) → Meets M S ds img tab n o φ → Met M S ds img tab a n (settled o) (ended φ)
+  pub settles : (o : Outcome) (φ : Fate) → Meets M S img tab n o φ → Met M S img tab a n (settled o) (ended φ)
   settles (refuse e) (denied e′) m = record {
     ans = m .0;
     byte = refl;
     sure = λ h. m .1 (m .0 ∙ h);
     laid = ap (λ (x : ℕ). put 1 (one x) ∷ []) (m .0);
     within = byte-within e;
-    rep = answered M S z ds d img tab a r n hn e;
+    rep = answered M S z img tab a r n hn e;
   }
   settles (refuse e) (granted b a′ qs) m = absurd m
   settles (done b ss ps) (denied e) m = absurd m
@@ -85,6 +84,6 @@ module _ (M S : ℕ) (z : Shape M S) (ds : List ℕ) (d : Listing S ds) (img tab
         sure = tt;
         laid = ap (λ (x : List Put). x ++ put 1 (one 0) ∷ []) (m .1);
         within = each-append Within ps (put 1 (one 0) ∷ []) (m .2) (byte-within 0);
-        rep = subst (λ (t : List ℕ). Agrees M S ds (stored img ss) t a′) (sym (puts-append ps (put 1 (one 0) ∷ []) tab (320 * n)))
-            (answered M S z ds d (stored img ss) (puts tab (320 * n) ps) a′ (m .3) n hn 0);
+        rep = subst (λ (t : List ℕ). Agrees M S (stored img ss) t a′) (sym (puts-append ps (put 1 (one 0) ∷ []) tab (320 * n)))
+            (answered M S z (stored img ss) (puts tab (320 * n) ps) a′ (m .3) n hn 0);
       }

@@ -10,16 +10,17 @@ use lib.ListN.{length, getD, length-append}
 use lib.Seq.{ext-getD}
 use Rattle.rules.specs.Bytes.{wordAt, part, over, two, six}
 use Rattle.rules.specs.Stores.{Store, store, stored}
-use Rattle.rules.specs.Directory.{live, slotsOf}
+use Rattle.rules.specs.Directory.{live, slotsOf, lastOf}
 use Rattle.laws.specs.Bytes.{part-at, part-join, length-part, length-two, length-over, over-in, over-other}
 use Rattle.laws.specs.Each.{Each, each-append}
 use Rattle.laws.specs.Stores.{Piece, piece, begins, bytesOf, laid, Off, inImage, stored-laid, in-image-append, length-stored}
 use Rattle.laws.specs.Addresses.{Shape}
+use Rattle.laws.specs.Slots.{length-slots}
 use Rattle.chains.specs.Tally.{tally, tally-head, tally-append, flat, eq1-ne}
 use Rattle.chains.specs.Addresses.{adr}
-use Rattle.chains.specs.Chain.{first, lastOf, Seg, pieces, contents, pieces-at, seg-at, tally-getD}
-use Rattle.chains.specs.Walk.{AllData}
-use Rattle.chains.specs.Directory.{Listing}
+use Rattle.chains.specs.Chain.{first, Seg, pieces, contents, pieces-at, seg-at, tally-getD, seat}
+use Rattle.chains.specs.Walk.{dataOf, tally-data, AllData}
+use Rattle.chains.specs.Directory.{slot-at}
 use Rattle.chains.specs.Frame.{Address, of-record, of-link}
 use Rattle.demands.specs.Ledger.{File, noFile, Ledger, secsOf, entryOf, joined, chainStores, fileStores, freeRecord, imageOf}
 use Rattle.met.specs.Relation.{Agrees}
@@ -90,29 +91,29 @@ stores-right P ss ts h = each-right P (inImage ss) (inImage ts) (subst (Each P) 
 
 -- ---- the sectors that chains have: where no store covers a place, none of them is its sector
 
-off-chain : (S at : ℕ) (m ks : List ℕ) → Stores (Off at) (chainStores S ks (pieces 2 254 m ks)) → tally (at / 256) ks ≡ 0
+off-chain : (S at n : ℕ) (m ks : List ℕ) → at % 256 < 2 + n → Stores (Off at) (chainStores S ks (pieces 2 n m ks)) → tally (at / 256) ks ≡ 0
 unfolding chainStores
-off-chain S at m [] o = refl
-off-chain S at m (k ∷ ks) o =
-    let l : length (two (adr S (first ks 0)) ++ part m (256 * k + 2) 254) ≡ 256 =
-    length-append (two (adr S (first ks 0))) (part m (256 * k + 2) 254) ∙ omega (arith, length-two (adr S (first ks 0)), length-part m (256 * k + 2) 254) in
-    omega (arith, off-chain S at m ks (o .1), eq1-ne (at / 256) k (λ e. o .0 (omega arith) (omega arith)))
+off-chain S at n m [] h o = refl
+off-chain S at n m (k ∷ ks) h o =
+    let l : length (two (adr S (first ks 0)) ++ part m (256 * k + 2) n) ≡ 2 + n =
+    length-append (two (adr S (first ks 0))) (part m (256 * k + 2) n) ∙ omega (arith, length-two (adr S (first ks 0)), length-part m (256 * k + 2) n) in
+    omega (arith, off-chain S at n m ks h (o .1), eq1-ne (at / 256) k (λ e. o .0 (omega arith) (omega arith)))
 
 -- ---- a slot, and a sector of its file
 
-module _ (S : ℕ) (img : List ℕ) (small : (p : ℕ) → Address S p → getD img p 0 < 256) where
-  -- a link of a data sector
-  pub link-is : (k x : ℕ) → S ≤ k → wordAt img (256 * k) ≡ adr S x → part img (256 * k) 2 ≡ two (adr S x)
+module _ (S : ℕ) (img : List ℕ) (small : (p : ℕ) → Address p → getD img p 0 < 256) where
+  -- the link of a sector
+  pub link-is : (k x : ℕ) → 4 ≤ k → wordAt img (256 * k) ≡ adr S x → part img (256 * k) 2 ≡ two (adr S x)
   link-is k x h e =
       part-two img (256 * k) (adr S x) e (small (256 * k) (of-link k 0 h (omega arith) (omega arith))) (small (256 * k + 1) (of-link k 1 h (omega arith) refl))
 
-module _ (M S : ℕ) (z : Shape M S) (ds : List ℕ) (d : Listing S ds) (img tab : List ℕ) (a : Ledger) (r : Agrees M S ds img tab a) where
+module _ (M S : ℕ) (z : Shape M S) (img tab : List ℕ) (a : Ledger) (r : Agrees M S img tab a) where
   -- the 24 bytes of slot s
-  pub entry-is : (s : ℕ) → s < length (slotsOf ds) → part img (getD (slotsOf ds) s 0) 24 ≡ entryOf (getD (a .slots) s noFile)
+  pub entry-is : (s : ℕ) → s < length (slotsOf (a .dir)) → part img (getD (slotsOf (a .dir)) s 0) 24 ≡ entryOf (getD (a .slots) s noFile)
   unfolding entryOf
   entry-is s h =
       let t = r .holds s h in
-      let o = getD (slotsOf ds) s 0 in
+      let o = getD (slotsOf (a .dir)) s 0 in
       rw (← t .name, ← t .mode, ← t .ends, ← t .date)
       (sym (
       ap (λ (l : List ℕ). part img o 11 ++ (part img (o + 11) 2 ++ l)) (part-join img 6 5 (o + 13) (o + 19) (omega arith))
@@ -121,15 +122,15 @@ module _ (M S : ℕ) (z : Shape M S) (ds : List ℕ) (d : Listing S ds) (img tab
       ))
 
   -- the 256 bytes of sector j of its file: link, record number, data
-  pub sector-is : (s : ℕ) → s < length (slotsOf ds) → live (getD (a .slots) s noFile .name) 0 ≡ true → (j : ℕ) → j < length (getD (a .slots) s noFile .secs)
+  pub sector-is : (s : ℕ) → s < length (slotsOf (a .dir)) → live (getD (a .slots) s noFile .name) 0 ≡ true → (j : ℕ) → j < length (getD (a .slots) s noFile .secs)
       → part img (256 * getD (getD (a .slots) s noFile .secs) j 0) 256
       ≡ two (adr S (getD (getD (a .slots) s noFile .secs) (suc j) 0)) ++ (getD (getD (a .slots) s noFile .recs) j [] ++ getD (getD (a .slots) s noFile .body) j [])
   sector-is s h v j b =
       let t = r .holds s h in
       let l = getD (a .slots) s noFile .secs in
       let k = getD l j 0 in
-      let low = secs-data M S z ds d img tab a r s h k (tally-getD l j b) .0 in
-      let w = link-is S img (r .small) k (getD l (suc j) 0) low (seg-at S img l j b (t .chain v .seg)) in
+      let low = secs-data M S z img tab a r s h k (tally-getD l j b) .0 in
+      let w = link-is S img (r .small) k (getD l (suc j) 0) (omega (arith, low, z .sectors)) (seg-at S img l j b (t .chain v .seg)) in
       rw (t .recs, t .body, pieces-at 2 2 img l j b, pieces-at 4 252 img l j b, ← w)
       (sym (
       ap (λ (y : List ℕ). part img (256 * k) 2 ++ y) (part-join img 2 252 (256 * k + 2) (256 * k + 4) (omega arith))
@@ -144,16 +145,20 @@ module _ (M S : ℕ) (z : Shape M S) (ds : List ℕ) (d : Listing S ds) (img tab
     pub rest : joined (f .recs) (f .body) ≡ pieces 2 254 img (f .secs)
     pub chain : Stores (True img) (chainStores S (f .secs) (joined (f .recs) (f .body)))
 
-  chain-true : (ks : List ℕ) → AllData M S ks → Seg S img ks 0 → Stores (True img) (chainStores S ks (pieces 2 254 img ks))
+  -- a chain's links, and n bytes behind each
+  chain-true : (n : ℕ) (ks : List ℕ) → ((x : ℕ) → 1 ≤ tally x ks → 4 ≤ x) → Seg S img ks 0 → Stores (True img) (chainStores S ks (pieces 2 n img ks))
   unfolding chainStores
-  chain-true [] g s = tt
-  chain-true (k ∷ ks) g s =
-      let w = link-is S img (r .small) k (first ks 0) (g k (tally-head k ks) .0) (s .0) in
-      let e : part img (256 * k + 0) 256 ≡ two (adr S (first ks 0)) ++ part img (256 * k + 2) 254 =
-      ap (λ (x : ℕ). part img x 256) (omega arith) ∙ sym (part-join img 2 254 (256 * k) (256 * k + 2) refl) ∙ ap (λ (y : List ℕ). y ++ part img (256 * k + 2) 254) w in
-      (part-true img (256 * k + 0) 256 _ e, chain-true ks (λ x t. g x (omega arith)) (s .1))
+  chain-true n [] g s = tt
+  chain-true n (k ∷ ks) g s =
+      let w = link-is S img (r .small) k (first ks 0) (g k (tally-head k ks)) (s .0) in
+      let e : part img (256 * k + 0) (2 + n) ≡ two (adr S (first ks 0)) ++ part img (256 * k + 2) n =
+      ap (λ (x : ℕ). part img x (2 + n)) (omega arith) ∙ sym (part-join img 2 n (256 * k) (256 * k + 2) refl) ∙ ap (λ (y : List ℕ). y ++ part img (256 * k + 2) n) w in
+      (part-true img (256 * k + 0) (2 + n) _ e, chain-true n ks (λ x t. g x (omega arith)) (s .1))
 
-  kept : (s : ℕ) → s < length (slotsOf ds) → Kept (getD (a .slots) s noFile)
+  data-true : (ks : List ℕ) → AllData M S ks → Seg S img ks 0 → Stores (True img) (chainStores S ks (pieces 2 254 img ks))
+  data-true ks g s = chain-true 254 ks (λ x t. omega (arith, g x t .0, z .sectors)) s
+
+  kept : (s : ℕ) → s < length (slotsOf (a .dir)) → Kept (getD (a .slots) s noFile)
   kept s h =
       record {
         entry = ap (λ (o : ℕ). part img o 24) (r .holds s h .at) ∙ entry-is s h;
@@ -168,8 +173,8 @@ module _ (M S : ℕ) (z : Shape M S) (ds : List ℕ) (d : Listing S ds) (img tab
       e = ap₂ joined (r .holds s h .recs) (r .holds s h .body) ∙ joined-pieces img (f .secs)
 
       go : (b : Bool) → live (f .name) 0 ≡ b → Stores (True img) (chainStores S (f .secs) (pieces 2 254 img (f .secs)))
-      go true v = chain-true (f .secs) (secs-data M S z ds d img tab a r s h) (r .holds s h .chain v .seg)
-      go false v = subst (λ (l : List ℕ). Stores (True img) (chainStores S l (pieces 2 254 img l))) (sym (r .holds s h .dead v)) (chain-true [] (λ x t. absurd (omega arith)) tt)
+      go true v = data-true (f .secs) (secs-data M S z img tab a r s h) (r .holds s h .chain v .seg)
+      go false v = subst (λ (l : List ℕ). Stores (True img) (chainStores S l (pieces 2 254 img l))) (sym (r .holds s h .dead v)) (data-true [] (λ x t. absurd (omega arith)) tt)
 
   files-true : (fs : List File) → ((s : ℕ) → s < length fs → Kept (getD fs s noFile)) → Stores (True img) (fileStores S fs)
   unfolding fileStores
@@ -197,7 +202,7 @@ module _ (M S : ℕ) (z : Shape M S) (ds : List ℕ) (d : Listing S ds) (img tab
   off-files at [] k o = refl
   off-files at (f ∷ fs) k o =
       let c = stores-left (Off at) (chainStores S (f .secs) (joined (f .recs) (f .body))) (fileStores S fs) (o .1) in
-      let t = off-chain S at img (f .secs) (subst (λ (vs : List (List ℕ)). Stores (Off at) (chainStores S (f .secs) vs)) (k 0 (omega arith) .rest) c) in
+      let t = off-chain S at 254 img (f .secs) (omega arith) (subst (λ (vs : List (List ℕ)). Stores (Off at) (chainStores S (f .secs) vs)) (k 0 (omega arith) .rest) c) in
       let u = off-files at fs (λ s h. k (suc s) (omega arith)) (stores-right (Off at) (chainStores S (f .secs) (joined (f .recs) (f .body))) (fileStores S fs) (o .1)) in
       omega (arith, tally-append (at / 256) (f .secs) (flat secsOf fs), t, u)
 
@@ -218,16 +223,21 @@ module _ (M S : ℕ) (z : Shape M S) (ds : List ℕ) (d : Listing S ds) (img tab
       ∙ part-join img 2 4 541 543 refl
       ))
 
+  abbrev below : List Store
+  below = chainStores S (a .dir) (a .heads) ++ fileStores S (a .slots)
+
   abbrev stores : List Store
-  stores = chainStores S (a .free) (a .spare) ++ fileStores S (a .slots)
+  stores = chainStores S (a .free) (a .spare) ++ below
 
   all-true : Stores (True img) (store 2 29 (freeRecord S (a .free)) ∷ stores)
   all-true = (
     part-true img 541 6 (freeRecord S (a .free)) record-is,
-    stores-append (True img) (chainStores S (a .free) (a .spare)) (fileStores S (a .slots))
+    stores-append (True img) (chainStores S (a .free) (a .spare)) below
         (subst (λ (vs : List (List ℕ)). Stores (True img) (chainStores S (a .free) vs)) (sym (r .spare))
-        (chain-true (a .free) (free-data M S z ds d img tab a r) (r .free .seg)))
-        (files-true (a .slots) all-kept),
+        (data-true (a .free) (free-data M S z img tab a r) (r .free .seg)))
+        (stores-append (True img) (chainStores S (a .dir) (a .heads)) (fileStores S (a .slots))
+        (subst (λ (vs : List (List ℕ)). Stores (True img) (chainStores S (a .dir) vs)) (sym (r .heads)) (chain-true 14 (a .dir) (r .listing .low) (r .dir)))
+        (files-true (a .slots) all-kept)),
   )
 
   -- what no store covers is as in the start's image
@@ -236,24 +246,51 @@ module _ (M S : ℕ) (z : Shape M S) (ds : List ℕ) (d : Listing S ds) (img tab
     where
       fr : tally (at / 256) (a .free) ≡ 0
       fr =
-          off-chain S at img (a .free)
+          off-chain S at 254 img (a .free) (omega arith)
           (subst (λ (vs : List (List ℕ)). Stores (Off at) (chainStores S (a .free) vs)) (r .spare)
-          (stores-left (Off at) (chainStores S (a .free) (a .spare)) (fileStores S (a .slots)) (o .1)))
+          (stores-left (Off at) (chainStores S (a .free) (a .spare)) below (o .1)))
+
+      rest : Stores (Off at) below
+      rest = stores-right (Off at) (chainStores S (a .free) (a .spare)) below (o .1)
 
       fo : Stores (Off at) (fileStores S (a .slots))
-      fo = stores-right (Off at) (chainStores S (a .free) (a .spare)) (fileStores S (a .slots)) (o .1)
+      fo = stores-right (Off at) (chainStores S (a .dir) (a .heads)) (fileStores S (a .slots)) rest
+
+      -- the sectors of the directory are covered: up to byte 15 by themselves, behind it by their slots
+      di : tally (at / 256) (a .dir) ≡ 0
+      di = head (decLt (at % 256) 16)
+        where
+          seated : 16 ≤ at % 256 → 1 ≤ tally (at / 256) (a .dir) → ⊥
+          seated u t =
+              let q = seat (a .dir) (at / 256) t in
+              let i = (at % 256 - 16) / 24 in
+              let hs : 10 * q .0 + i < length (slotsOf (a .dir)) = omega (arith, length-slots (a .dir), q .1) in
+              let e = slot-at (a .dir) (q .0) i (q .1) (omega arith) in
+              let h = r .holds (10 * q .0 + i) hs .at in
+              off-slots at (a .slots) all-kept fo (10 * q .0 + i) (omega (arith, r .ns, hs)) (omega (arith, h, e, q .2)) (omega (arith, h, e, q .2))
+
+          none : (c : ℕ) → tally (at / 256) (a .dir) ≡ c → 16 ≤ at % 256 → c ≡ 0
+          none zero e u = refl
+          none (suc c) e u = absurd (seated u (omega (arith, e)))
+
+          head : Dec (at % 256 < 16) → tally (at / 256) (a .dir) ≡ 0
+          head (yes u) =
+              off-chain S at 14 img (a .dir) u
+              (subst (λ (vs : List (List ℕ)). Stores (Off at) (chainStores S (a .dir) vs)) (r .heads)
+              (stores-left (Off at) (chainStores S (a .dir) (a .heads)) (fileStores S (a .slots)) rest))
+          head (no u) = none (tally (at / 256) (a .dir)) refl (omega arith)
 
       go : Dec (at < 256 * S) → getD (a .base) at 0 ≡ getD img at 0
-      go (yes u) =
-          sym (r .aside at u
-          (λ x y. o .0 x (omega (arith, y, ap length record-is, length-part img 541 6)))
-          (λ s hs x y. off-slots at (a .slots) all-kept fo s (omega (arith, r .ns)) (omega (arith, x, r .holds s hs .at)) (omega (arith, y, r .holds s hs .at))))
+      go (yes u) = sym (r .aside at u (λ x y. o .0 x (omega (arith, y, ap length record-is, length-part img 541 6))) di)
       go (no u) =
           absurd (omega (
             arith,
             r .once .inside (at / 256) (omega arith) (omega (arith, r .shaped .size)),
-            tally-append (at / 256) (a .free) (flat secsOf (a .slots)),
+            tally-append (at / 256) (a .free) (dataOf S (a .dir) ++ flat secsOf (a .slots)),
+            tally-append (at / 256) (dataOf S (a .dir)) (flat secsOf (a .slots)),
+            tally-data S (a .dir) (at / 256) (omega arith),
             fr,
+            di,
             off-files at (a .slots) all-kept fo,
           ))
 

@@ -11,7 +11,6 @@ use Rattle.rules.specs.Stores.{Put, put, puts}
 use Rattle.rules.specs.Directory.{slotsOf}
 use Rattle.laws.specs.Bytes.{length-one}
 use Rattle.laws.specs.Addresses.{Shape}
-use Rattle.chains.specs.Directory.{Listing}
 use Rattle.laws.specs.Stores.{length-puts, Within, puts-off, puts-other}
 use Rattle.laws.specs.Each.{Each}
 use Rattle.demands.specs.Ledger.{File, Block, closed, listing, reading, writing, Ledger, activity, setBlock}
@@ -40,7 +39,7 @@ shut-writes (listing p) h = refl
 shut-writes (reading s j i) h = refl
 shut-writes (writing s ub) h = h
 
-module _ (M S : ℕ) (z : Shape M S) (ds : List ℕ) (d : Listing S ds) (img tab : List ℕ) (a : Ledger) (r : Agrees M S ds img tab a) (n : ℕ) (hn : n < 8) where
+module _ (M S : ℕ) (z : Shape M S) (img tab : List ℕ) (a : Ledger) (r : Agrees M S img tab a) (n : ℕ) (hn : n < 8) where
   abbrev old : Block
   old = getD (a .blocks) n closed
 
@@ -57,33 +56,33 @@ module _ (M S : ℕ) (z : Shape M S) (ds : List ℕ) (d : Listing S ds) (img tab
   nobody s ub e n′ h ne q = r .alone n n′ (λ x. ne (sym x)) hn h (rw e (omega arith)) (ap writes e ∙ sym q)
 
   pub on-block : (tab′ : List ℕ) (b : Block) → Turn tab tab′ n → opens b ≡ opens old → writes b ≡ writes old
-      → Keeps S (slotsOf ds) tab′ n (a .slots) b
-      → Agrees M S ds img tab′ (setBlock a n b)
-  on-block tab′ b t o w k = step-block M S z ds d img tab a r tab′ n b hn t k (alone1 b o w) (alone2 b o)
+      → Keeps S (slotsOf (a .dir)) tab′ n (a .slots) b
+      → Agrees M S img tab′ (setBlock a n b)
+  on-block tab′ b t o w k = step-block M S z img tab a r tab′ n b hn t k (alone1 b o w) (alone2 b o)
 
   -- a block that has nothing open afterwards
-  pub shut-block : (tab′ : List ℕ) (b : Block) → Turn tab tab′ n → opens b ≡ 0 → writes b ≡ 0 → Keeps S (slotsOf ds) tab′ n (a .slots) b
-      → Agrees M S ds img tab′ (setBlock a n b)
+  pub shut-block : (tab′ : List ℕ) (b : Block) → Turn tab tab′ n → opens b ≡ 0 → writes b ≡ 0 → Keeps S (slotsOf (a .dir)) tab′ n (a .slots) b
+      → Agrees M S img tab′ (setBlock a n b)
   shut-block tab′ b t o w k =
-      step-block M S z ds d img tab a r tab′ n b hn t k (λ n′ h e u. absurd (omega (arith, u, w))) (λ n′ h e u. absurd (omega (arith, u, o)))
+      step-block M S z img tab a r tab′ n b hn t k (λ n′ h e u. absurd (omega (arith, u, w))) (λ n′ h e u. absurd (omega (arith, u, o)))
 
-  as-it-was : (tab′ : List ℕ) → Turn tab tab′ n → Keeps S (slotsOf ds) tab′ n (a .slots) old → Agrees M S ds img tab′ a
+  as-it-was : (tab′ : List ℕ) → Turn tab tab′ n → Keeps S (slotsOf (a .dir)) tab′ n (a .slots) old → Agrees M S img tab′ a
   as-it-was tab′ t k =
-      subst (λ (bs : List Block). Agrees M S ds img tab′ (record { base = a .base; free = a .free; spare = a .spare; slots = a .slots; blocks = bs; fcbs = a .fcbs })) (set-getD (a .blocks) n closed)
+      subst (λ (bs : List Block). Agrees M S img tab′ (record { base = a .base; free = a .free; spare = a .spare; dir = a .dir; heads = a .heads; slots = a .slots; blocks = bs; fcbs = a .fcbs })) (set-getD (a .blocks) n closed)
       (on-block tab′ old t refl refl k)
 
   -- bytes 0 and 1 alone change: a refusal, a preset of byte 0
-  pub quiet : (tab′ : List ℕ) → Turn tab tab′ n → Rest tab tab′ n → Agrees M S ds img tab′ a
-  quiet tab′ t k = as-it-was tab′ t (keeps-same S (slotsOf ds) tab tab′ n (a .slots) (a .slots) old k (λ o s e. refl) (r .keeps n hn))
+  pub quiet : (tab′ : List ℕ) → Turn tab tab′ n → Rest tab tab′ n → Agrees M S img tab′ a
+  quiet tab′ t k = as-it-was tab′ t (keeps-same S (slotsOf (a .dir)) tab tab′ n (a .slots) (a .slots) old k (λ o s e. refl) (r .keeps n hn))
 
   -- the number of an answer is stored
-  pub answered : (e : ℕ) → Agrees M S ds img (puts tab (320 * n) (put 1 (one e) ∷ [])) a
+  pub answered : (e : ℕ) → Agrees M S img (puts tab (320 * n) (put 1 (one e) ∷ [])) a
   answered e =
       quiet (puts tab (320 * n) (put 1 (one e) ∷ [])) (turned tab n (put 1 (one e) ∷ []) (omega (arith, length-one e)))
       (λ i h. puts-off (put 1 (one e) ∷ []) tab (320 * n) (320 * n + i) (omega (arith, length-one e)))
 
   idle-keeps : (tab′ : List ℕ) (fs : List File) (b : Block) → opens b ≡ 0 → tb tab′ n 2 ≡ tb tab n 2 → tp tab′ n ≡ tp tab n
-      → Keeps S (slotsOf ds) tab n (a .slots) b → Keeps S (slotsOf ds) tab′ n fs b
+      → Keeps S (slotsOf (a .dir)) tab n (a .slots) b → Keeps S (slotsOf (a .dir)) tab′ n fs b
   idle-keeps tab′ fs closed o e p k = e ∙ k
   idle-keeps tab′ fs (listing c) o e p k = record { act = e ∙ k .act; shown = k .shown; place = p ∙ k .place }
   idle-keeps tab′ fs (reading s j i) o e p k = absurd (omega arith)
@@ -91,16 +90,16 @@ module _ (M S : ℕ) (z : Shape M S) (ds : List ℕ) (d : Listing S ds) (img tab
 
   -- an idle block after stores that leave its activity and its place, whatever the files
   pub idle-kept : (tab′ : List ℕ) (fs : List File) → opens old ≡ 0 → tb tab′ n 2 ≡ tb tab n 2 → tp tab′ n ≡ tp tab n
-      → Keeps S (slotsOf ds) tab′ n fs old
+      → Keeps S (slotsOf (a .dir)) tab′ n fs old
   idle-kept tab′ fs o e p = idle-keeps tab′ fs old o e p (r .keeps n hn)
 
   -- an idle block's activity and place are kept: presets, what is copied into it
-  pub idle-quiet : (tab′ : List ℕ) → Turn tab tab′ n → opens old ≡ 0 → tb tab′ n 2 ≡ tb tab n 2 → tp tab′ n ≡ tp tab n → Agrees M S ds img tab′ a
+  pub idle-quiet : (tab′ : List ℕ) → Turn tab tab′ n → opens old ≡ 0 → tb tab′ n 2 ≡ tb tab n 2 → tp tab′ n ≡ tp tab n → Agrees M S img tab′ a
   idle-quiet tab′ t o e p = as-it-was tab′ t (idle-kept tab′ (a .slots) o e p)
 
   -- an activity of 0 or 16: nothing is open
   pub idle-opens : tb tab n 2 ≢ 1 → tb tab n 2 ≢ 2 → opens old ≡ 0
-  idle-opens h k = go old (activity-is S (slotsOf ds) tab n (a .slots) old (r .keeps n hn))
+  idle-opens h k = go old (activity-is S (slotsOf (a .dir)) tab n (a .slots) old (r .keeps n hn))
     where
       go : (b : Block) → tb tab n 2 ≡ activity b → opens b ≡ 0
       go closed e = refl

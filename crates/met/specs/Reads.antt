@@ -21,7 +21,6 @@ use Rattle.chains.specs.Tally.{tally}
 use Rattle.laws.specs.Addresses.{Shape}
 use Rattle.chains.specs.Addresses.{adr, adr-zero, adr-pos, adr-small, index-adr, data-adr}
 use Rattle.chains.specs.Chain.{tally-getD, seg-at, pieces-at}
-use Rattle.chains.specs.Directory.{Listing}
 use Rattle.laws.specs.Each.{Each}
 use Rattle.laws.specs.Stores.{Within, puts-off, puts-at}
 use Rattle.demands.specs.Ledger.{File, noFile, Block, closed, reading, Ledger, Request, denied, granted, setBlock, loaded, transferred, rewound}
@@ -34,7 +33,7 @@ one-head : (v : ℕ) → getD (one v) 0 0 ≡ v
 unfolding one
 one-head v = refl
 
-module _ (M S : ℕ) (z : Shape M S) (ds : List ℕ) (d : Listing S ds) (img tab : List ℕ) (a : Ledger) (r : Agrees M S ds img tab a) (n : ℕ) (hn : n < 8)
+module _ (M S : ℕ) (z : Shape M S) (img tab : List ℕ) (a : Ledger) (r : Agrees M S img tab a) (n : ℕ) (hn : n < 8)
     (s j i : ℕ) (e : getD (a .blocks) n closed ≡ reading s j i) where
   abbrev f : File
   f = getD (a .slots) s noFile
@@ -42,8 +41,8 @@ module _ (M S : ℕ) (z : Shape M S) (ds : List ℕ) (d : Listing S ds) (img tab
   abbrev l : List ℕ
   l = f .secs
 
-  w : Reading S (slotsOf ds) tab n f s j i
-  w = subst (λ (b : Block). Keeps S (slotsOf ds) tab n (a .slots) b) e (r .keeps n hn)
+  w : Reading S (slotsOf (a .dir)) tab n f s j i
+  w = subst (λ (b : Block). Keeps S (slotsOf (a .dir)) tab n (a .slots) b) e (r .keeps n hn)
 
   in-table : (k : ℕ) → k < 320 → 320 * n + k < length tab
   in-table k h = omega (arith, r .tlen)
@@ -62,7 +61,7 @@ module _ (M S : ℕ) (z : Shape M S) (ds : List ℕ) (d : Listing S ds) (img tab
     s2 : (k : ℕ) → k ≢ 34 → k + 1 ≢ 34 → t2 (puts tab (320 * n) gave) n k ≡ t2 tab n k
     s2 k b c = t2-same tab (puts tab (320 * n) gave) n k (same k b) (same (k + 1) c)
 
-    gave-now : Reading S (slotsOf ds) (puts tab (320 * n) gave) n f s j ((i + 1) % 256)
+    gave-now : Reading S (slotsOf (a .dir)) (puts tab (320 * n) gave) n f s j ((i + 1) % 256)
     gave-now = record {
       act = same 2 (omega arith) ∙ w .act;
       drive = same 3 (omega arith) ∙ w .drive;
@@ -79,9 +78,9 @@ module _ (M S : ℕ) (z : Shape M S) (ds : List ℕ) (d : Listing S ds) (img tab
       buffer = λ q k b. same (68 + k) (omega arith) ∙ w .buffer h k b;
     }
 
-    gave-step : Agrees M S ds img (puts tab (320 * n) gave) (setBlock a n (reading s j ((i + 1) % 256)))
+    gave-step : Agrees M S img (puts tab (320 * n) gave) (setBlock a n (reading s j ((i + 1) % 256)))
     gave-step =
-        on-block M S z ds d img tab a r n hn (puts tab (320 * n) gave) (reading s j ((i + 1) % 256)) (turned tab n gave (omega (arith, length-one ((i + 1) % 256)))) (ap opens (sym e)) (ap writes (sym e)) gave-now
+        on-block M S z img tab a r n hn (puts tab (320 * n) gave) (reading s j ((i + 1) % 256)) (turned tab n gave (omega (arith, length-one ((i + 1) % 256)))) (ap opens (sym e)) (ap writes (sym e)) gave-now
 
     gave-byte : getD tab (320 * n + (64 + i)) 0 ≡ getD (getD (f .body) (j - 1) []) (i - 4) 0
     gave-byte = ap (λ (q : ℕ). tb tab n q) (omega (arith, wi)) ∙ w .buffer h (i - 4) (omega (arith, wi))
@@ -103,15 +102,15 @@ module _ (M S : ℕ) (z : Shape M S) (ds : List ℕ) (d : Listing S ds) (img tab
     kt = tally-getD l j jl
 
     k-low : S ≤ k
-    k-low = all-low M S z ds d img tab a r k (omega (arith, kt, slot-le M S z ds d img tab a r s k (w .slot)))
+    k-low = all-low M S z img tab a r k (omega (arith, kt, slot-le M S z img tab a r s k (w .slot)))
 
     k-pos : 1 ≤ k
     k-pos = omega (arith, k-low, z .sectors)
 
     k-high : k < (M + 1) * S
-    k-high = all-high M S z ds d img tab a r k (omega (arith, kt, slot-le M S z ds d img tab a r s k (w .slot)))
+    k-high = all-high M S z img tab a r k (omega (arith, kt, slot-le M S z img tab a r s k (w .slot)))
 
-    h : Holds S img (getD (slotsOf ds) s 0) f
+    h : Holds S img (getD (slotsOf (a .dir)) s 0) f
     h = r .holds s (w .slot)
 
     abbrev ps : List Put
@@ -152,7 +151,7 @@ module _ (M S : ℕ) (z : Shape M S) (ds : List ℕ) (d : Listing S ds) (img tab
         ap (λ (p : ℕ). getD img p 0) (omega arith) ∙ sym (part-at img (256 * k + 4) 252 c b)
         ∙ ap (λ (d : List ℕ). getD d c 0) (sym (ap (λ (b : List (List ℕ)). getD b j []) (h .body) ∙ pieces-at 4 252 img l j jl))
 
-    load-now : Reading S (slotsOf ds) tab′ n f s (suc j) 5
+    load-now : Reading S (slotsOf (a .dir)) tab′ n f s (suc j) 5
     unfolding one two
     load-now = record {
       act = lsame 2 (omega arith) ∙ w .act;
@@ -181,22 +180,22 @@ module _ (M S : ℕ) (z : Shape M S) (ds : List ℕ) (d : Listing S ds) (img tab
     unfolding loaded
     load-puts =
         let rec : part img (256 * k + 2) 2 ≡ getD (f .recs) j [] = sym (ap (λ (x : List (List ℕ)). getD x j []) (h .recs) ∙ pieces-at 2 2 img l j jl) in
-        ap₂ (λ (x y : List ℕ). put 30 (two (adr S k)) ∷ put 32 x ∷ put 64 y ∷ put 34 (one 5) ∷ []) rec (sector-is M S z ds d img tab a r s (w .slot) (w .alive) j jl)
+        ap₂ (λ (x y : List ℕ). put 30 (two (adr S k)) ∷ put 32 x ∷ put 64 y ∷ put 34 (one 5) ∷ []) rec (sector-is M S z img tab a r s (w .slot) (w .alive) j jl)
 
-    load-step : Agrees M S ds img tab′ (setBlock a n (reading s (suc j) 5))
+    load-step : Agrees M S img tab′ (setBlock a n (reading s (suc j) 5))
     unfolding two one
     load-step =
-        on-block M S z ds d img tab a r n hn tab′ (reading s (suc j) 5) (turned tab n ps load-within) (ap opens (sym e)) (ap writes (sym e)) load-now
+        on-block M S z img tab a r n hn tab′ (reading s (suc j) 5) (turned tab n ps load-within) (ap opens (sym e)) (ap writes (sym e)) load-now
 
     load-byte : getD img (256 * k + 4) 0 ≡ getD (getD (f .body) j []) 0 0
     load-byte = ap (λ (p : ℕ). getD img p 0) (omega arith) ∙ data252 0 (omega arith)
 
-  load-meets : Meets M S ds img tab n (load img M S (adr S (getD l j 0)))
+  load-meets : Meets M S img tab n (load img M S (adr S (getD l j 0)))
       (pick (ltb j (length l)) (granted (getD (getD (f .body) j []) 0 0) (setBlock a n (reading s (suc j) 5)) (loaded S f j)) (denied 8))
   unfolding load loadPuts
   load-meets = go (decLt j (length l))
     where
-      go : Dec (j < length l) → Meets M S ds img tab n
+      go : Dec (j < length l) → Meets M S img tab n
           (pick (eqb (adr S (getD l j 0)) 0) (refuse 8)
           (pick (isData M S (adr S (getD l j 0))) (done (byteAt img (256 * index S (adr S (getD l j 0)) + 4)) [] (loadPuts img (adr S (getD l j 0)) (index S (adr S (getD l j 0))))) (refuse 9)))
           (pick (ltb j (length l)) (granted (getD (getD (f .body) j []) 0 0) (setBlock a n (reading s (suc j) 5)) (loaded S f j)) (denied 8))
@@ -212,10 +211,10 @@ module _ (M S : ℕ) (z : Shape M S) (ds : List ℕ) (d : Listing S ds) (img tab
           let p : adr S (getD l j 0) ≡ 0 = ap (adr S) (List·getD-eq-default l 0 (omega arith)) ∙ adr-zero S in
           rw (eq-eqb (adr S (getD l j 0)) 0 p, le-ltb j (length l) (omega arith)) (refl, omega arith)
 
-  pub read-meets : (q : Request) → Meets M S ds img tab n (readByte img tab M S (320 * n)) (transferred M S a n q (reading s j i))
+  pub read-meets : (q : Request) → Meets M S img tab n (readByte img tab M S (320 * n)) (transferred M S a n q (reading s j i))
   unfolding readByte
   read-meets q =
-      meets-pick M S ds img tab n (eqb (tb tab n 34) 0) (eqb i 0) _ _ _ _ (ap (λ (x : ℕ). eqb x 0) (w .at))
+      meets-pick M S img tab n (eqb (tb tab n 34) 0) (eqb i 0) _ _ _ _ (ap (λ (x : ℕ). eqb x 0) (w .at))
       (λ h. rw wanted load-meets)
       (λ h. rw (w .at) (gave-byte (pos-of h), refl, (omega (arith, length-one ((i + 1) % 256)), tt), gave-step (pos-of h)))
     where
@@ -230,7 +229,7 @@ module _ (M S : ℕ) (z : Shape M S) (ds : List ℕ) (d : Listing S ds) (img tab
   unfolding one two
   rsame k b0 b1 b2 b3 = puts-off rs tab (320 * n) (320 * n + k) (omega arith)
 
-  rewind-now : Reading S (slotsOf ds) (puts tab (320 * n) rs) n f s 0 0
+  rewind-now : Reading S (slotsOf (a .dir)) (puts tab (320 * n) rs) n f s 0 0
   unfolding one two
   rewind-now = record {
     act = rsame 2 (omega arith) (omega arith) (omega arith) (omega arith) ∙ w .act;
@@ -250,7 +249,7 @@ module _ (M S : ℕ) (z : Shape M S) (ds : List ℕ) (d : Listing S ds) (img tab
     buffer = λ q. absurd (omega arith);
   }
 
-  pub rewind-meets : (q : Request) → Meets M S ds img tab n rewind (rewound M S a n q (reading s j i))
+  pub rewind-meets : (q : Request) → Meets M S img tab n rewind (rewound M S a n q (reading s j i))
   unfolding rewind one two
   rewind-meets q =
-      (refl, refl, (omega arith, (omega arith, (omega arith, tt))), on-block M S z ds d img tab a r n hn (puts tab (320 * n) rs) (reading s 0 0) (turned tab n rs (omega arith)) (ap opens (sym e)) (ap writes (sym e)) rewind-now)
+      (refl, refl, (omega arith, (omega arith, (omega arith, tt))), on-block M S z img tab a r n hn (puts tab (320 * n) rs) (reading s 0 0) (turned tab n rs (omega arith)) (ap opens (sym e)) (ap writes (sym e)) rewind-now)

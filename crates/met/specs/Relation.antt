@@ -3,20 +3,21 @@ use mathlib.Core.Path.{_≡_, refl, sym, ap, _∙_, subst}
 use mathlib.Core.Logic.{_≢_}
 use mathlib.Core.Bool.{true, false}
 use mathlib.Core.List.{List, [], _++_}
-use Prim.Native.Nat.{ℕ, zero, suc, _+_, _-_, _*_, _≤_, _<_}
+use Prim.Native.Nat.{ℕ, zero, suc, _+_, _-_, _*_, _/_, _≤_, _<_}
 use native.Mathlib.Omega.{arith}
 use native.Mathlib.Decide.{ℕ-discrete}
-use lib.ListN.{length, getD, set, length-set}
+use lib.ListN.{length, getD, set, length-append, length-set, List·getD-append}
 use lib.Seq.{getD-set-same, getD-set-other}
 use Rattle.rules.specs.Bytes.{wordAt, part, zeros}
-use Rattle.rules.specs.Directory.{live, slotsOf, placeOf}
+use Rattle.rules.specs.Directory.{live, slotsOf, placeOf, lastOf}
 use Rattle.laws.specs.Bytes.{word-same, part-same}
 use Rattle.chains.specs.Tally.{tally, tally-append, flat, tally-set, tally-one, tally-two}
 use Rattle.chains.specs.Once.{Once, once-eq, once-le}
 use Rattle.laws.specs.Addresses.{Shape}
 use Rattle.chains.specs.Addresses.{Sized, adr, room-for}
-use Rattle.chains.specs.Chain.{first, lastOf, Seg, Chain, pieces, contents, seg-same, pieces-same, chain-same}
+use Rattle.chains.specs.Chain.{first, Seg, Chain, pieces, contents, seg-same, pieces-same, chain-same}
 use Rattle.chains.specs.Directory.{Listing}
+use Rattle.chains.specs.Walk.{dataOf, tally-data}
 use Rattle.chains.specs.Frame.{Address, Frame}
 use Rattle.demands.specs.Ledger.{File, noFile, Block, closed, listing, reading, writing, Ledger, secsOf, setBlock, setFree}
 
@@ -64,7 +65,7 @@ pub record Reading (S : ℕ) (os tab : List ℕ) (n : ℕ) (f : File) (s j i : �
   pub drive : tb tab n 3 ≡ 0
   pub slot : s < length os
   pub alive : live (f .name) 0 ≡ true
-  pub place : tp tab n ≡ placeOf (getD os s 0)
+  pub place : tp tab n ≡ placeOf S (getD os s 0)
   pub start : t2 tab n 17 ≡ adr S (getD (f .secs) 0 0)
   pub loaded : j ≤ length (f .secs)
   pub before : j ≡ 0 → t2 tab n 30 ≡ 0
@@ -79,7 +80,7 @@ pub record Writing (S : ℕ) (os tab : List ℕ) (n : ℕ) (f : File) (s : ℕ) 
   pub drive : tb tab n 3 ≡ 0
   pub slot : s < length os
   pub alive : live (f .name) 0 ≡ true
-  pub place : tp tab n ≡ placeOf (getD os s 0)
+  pub place : tp tab n ≡ placeOf S (getD os s 0)
   pub start : t2 tab n 17 ≡ adr S (first (f .secs) 0)
   pub size : t2 tab n 21 ≡ length (f .secs)
   pub pos : t2 tab n 30 ≡ adr S (lastOf (f .secs) 0)
@@ -90,40 +91,41 @@ pub record Writing (S : ℕ) (os tab : List ℕ) (n : ℕ) (f : File) (s : ℕ) 
   pub buffer : 1 ≤ length ub → (k : ℕ) → k < 252 → tb tab n (68 + k) ≡ getD ub k 0
 
 -- the place of a block in the directory: 0,0,0, then that of the slot last shown
-abbrev pub placeBy : List ℕ → ℕ → List ℕ
-placeBy os zero = zeros 3
-placeBy os (suc s) = placeOf (getD os s 0)
+abbrev pub placeBy : ℕ → List ℕ → ℕ → List ℕ
+placeBy S os zero = zeros 3
+placeBy S os (suc s) = placeOf S (getD os s 0)
 
-pub record Listed (os tab : List ℕ) (n p : ℕ) : Type 0 where
+pub record Listed (S : ℕ) (os tab : List ℕ) (n p : ℕ) : Type 0 where
   pub act : tb tab n 2 ≡ 16
   pub shown : p ≤ length os
-  pub place : tp tab n ≡ placeBy os p
+  pub place : tp tab n ≡ placeBy S os p
 
 abbrev pub Keeps : ℕ → List ℕ → List ℕ → ℕ → List File → Block → Type 0
 Keeps S os tab n fs closed = tb tab n 2 ≡ 0
-Keeps S os tab n fs (listing p) = Listed os tab n p
+Keeps S os tab n fs (listing p) = Listed S os tab n p
 Keeps S os tab n fs (reading s j i) = Reading S os tab n (getD fs s noFile) s j i
 Keeps S os tab n fs (writing s ub) = Writing S os tab n (getD fs s noFile) s ub
 
--- THE RELATION, for a diskette of M, S whose directory's sectors are ds
-pub record Agrees (M S : ℕ) (ds img tab : List ℕ) (a : Ledger) : Type 0 where
+-- THE RELATION, for a diskette of M, S
+pub record Agrees (M S : ℕ) (img tab : List ℕ) (a : Ledger) : Type 0 where
   pub shaped : Sized M S img
   pub tlen : length tab ≡ 2560
-  pub dir : Seg S img ds 0
-  pub ns : length (a .slots) ≡ length (slotsOf ds)
+  pub listing : Listing M S (a .dir)
+  pub dir : Seg S img (a .dir) 0
+  pub heads : a .heads ≡ pieces 2 14 img (a .dir)
+  pub ns : length (a .slots) ≡ length (slotsOf (a .dir))
   pub nb : length (a .blocks) ≡ 8
   pub free : Chain S img 541 (a .free)
-  pub holds : (s : ℕ) → s < length (slotsOf ds) → Holds S img (getD (slotsOf ds) s 0) (getD (a .slots) s noFile)
-  pub keeps : (n : ℕ) → n < 8 → Keeps S (slotsOf ds) tab n (a .slots) (getD (a .blocks) n closed)
+  pub holds : (s : ℕ) → s < length (slotsOf (a .dir)) → Holds S img (getD (slotsOf (a .dir)) s 0) (getD (a .slots) s noFile)
+  pub keeps : (n : ℕ) → n < 8 → Keeps S (slotsOf (a .dir)) tab n (a .slots) (getD (a .blocks) n closed)
   pub alone : (n n′ : ℕ) → n ≢ n′ → n < 8 → n′ < 8 → 1 ≤ writes (getD (a .blocks) n closed)
       → writes (getD (a .blocks) n closed) ≢ opens (getD (a .blocks) n′ closed)
-  pub once : Once S ((M + 1) * S) (a .free ++ flat secsOf (a .slots))
-  -- bytes of free sectors, of addresses, and those that no slot and no record has
+  pub once : Once S ((M + 1) * S) (a .free ++ (dataOf S (a .dir) ++ flat secsOf (a .slots)))
+  -- bytes of free sectors, of addresses, and of track 0 where neither record nor directory is
   pub spare : a .spare ≡ pieces 2 254 img (a .free)
-  pub small : (p : ℕ) → Address S p → getD img p 0 < 256
+  pub small : (p : ℕ) → Address p → getD img p 0 < 256
   pub len : length img ≡ length (a .base)
-  pub aside : (p : ℕ) → p < 256 * S → (541 ≤ p → p < 547 → ⊥)
-      → ((s : ℕ) → s < length (slotsOf ds) → getD (slotsOf ds) s 0 ≤ p → p < getD (slotsOf ds) s 0 + 24 → ⊥) → getD img p 0 ≡ getD (a .base) p 0
+  pub aside : (p : ℕ) → p < 256 * S → (541 ≤ p → p < 547 → ⊥) → tally (p / 256) (a .dir) ≡ 0 → getD img p 0 ≡ getD (a .base) p 0
 
 -- ---- frames of the table
 
@@ -184,6 +186,50 @@ keeps-same S os tab tab′ n fs fs′ (writing s ub) r e k =
     } in
     subst (λ (f : File). Writing S os tab′ n f s ub) (sym (e (omega arith) s refl)) t
 
+-- and with more slots behind its own
+pub keeps-more : (S : ℕ) (os ps tab : List ℕ) (n : ℕ) (fs gs : List File) (b : Block) → length fs ≡ length os → Keeps S os tab n fs b → Keeps S (os ++ ps) tab n (fs ++ gs) b
+keeps-more S os ps tab n fs gs closed e k = k
+keeps-more S os ps tab n fs gs (listing p) e k =
+    record { act = k .act; shown = omega (arith, k .shown, length-append os ps); place = k .place ∙ by p (k .shown) }
+  where
+    by : (p : ℕ) → p ≤ length os → placeBy S os p ≡ placeBy S (os ++ ps) p
+    by zero h = refl
+    by (suc s) h = ap (placeOf S) (sym (List·getD-append os ps 0 s (omega arith)))
+keeps-more S os ps tab n fs gs (reading s j i) e k =
+    let t : Reading S (os ++ ps) tab n (getD fs s noFile) s j i = record {
+      act = k .act;
+      drive = k .drive;
+      slot = omega (arith, k .slot, length-append os ps);
+      alive = k .alive;
+      place = k .place ∙ ap (placeOf S) (sym (List·getD-append os ps 0 s (k .slot)));
+      start = k .start;
+      loaded = k .loaded;
+      before = k .before;
+      after = k .after;
+      link = k .link;
+      at = k .at;
+      within = k .within;
+      buffer = k .buffer;
+    } in
+    subst (λ (f : File). Reading S (os ++ ps) tab n f s j i) (sym (List·getD-append fs gs noFile s (omega (arith, k .slot, e)))) t
+keeps-more S os ps tab n fs gs (writing s ub) e k =
+    let t : Writing S (os ++ ps) tab n (getD fs s noFile) s ub = record {
+      act = k .act;
+      drive = k .drive;
+      slot = omega (arith, k .slot, length-append os ps);
+      alive = k .alive;
+      place = k .place ∙ ap (placeOf S) (sym (List·getD-append os ps 0 s (k .slot)));
+      start = k .start;
+      size = k .size;
+      pos = k .pos;
+      idle = k .idle;
+      busy = k .busy;
+      short = k .short;
+      some = k .some;
+      buffer = k .buffer;
+    } in
+    subst (λ (f : File). Writing S (os ++ ps) tab n f s ub) (sym (List·getD-append fs gs noFile s (omega (arith, k .slot, e)))) t
+
 -- ---- frames of the image: a slot whose bytes and sectors are kept
 
 pub holds-same : (S : ℕ) (m m′ : List ℕ) (o : ℕ) (f : File) → ((i : ℕ) → i < 24 → getD m′ (o + i) 0 ≡ getD m (o + i) 0)
@@ -210,38 +256,50 @@ pub record Turn (tab tab′ : List ℕ) (n : ℕ) : Type 0 where
   pub len : length tab′ ≡ length tab
   pub others : (n′ : ℕ) → n′ ≢ n → Rest tab tab′ n′
 
-module _ (M S : ℕ) (z : Shape M S) (ds : List ℕ) (d : Listing S ds) (img tab : List ℕ) (a : Ledger) (r : Agrees M S ds img tab a) where
+module _ (M S : ℕ) (z : Shape M S) (img tab : List ℕ) (a : Ledger) (r : Agrees M S img tab a) where
+  -- the three kinds of owner
+  tally-all : (x : ℕ) → tally x (a .free ++ (dataOf S (a .dir) ++ flat secsOf (a .slots))) ≡ tally x (a .free) + tally x (dataOf S (a .dir)) + tally x (flat secsOf (a .slots))
+  tally-all x =
+      omega (arith, tally-append x (a .free) (dataOf S (a .dir) ++ flat secsOf (a .slots)), tally-append x (dataOf S (a .dir)) (flat secsOf (a .slots)))
+
+  three-le : (x : ℕ) → tally x (a .free) + tally x (dataOf S (a .dir)) + tally x (flat secsOf (a .slots)) ≤ 1
+  three-le x = omega (arith, tally-all x, once-le S ((M + 1) * S) (a .free ++ (dataOf S (a .dir) ++ flat secsOf (a .slots))) (r .once) x)
+
   pub all-le : (x : ℕ) → tally x (a .free) + tally x (flat secsOf (a .slots)) ≤ 1
-  all-le x = omega (arith, tally-append x (a .free) (flat secsOf (a .slots)), once-le S ((M + 1) * S) (a .free ++ flat secsOf (a .slots)) (r .once) x)
+  all-le x = omega (arith, three-le x)
 
   pub all-low : (x : ℕ) → 1 ≤ tally x (a .free) + tally x (flat secsOf (a .slots)) → S ≤ x
-  all-low x h = r .once .low x (omega (arith, tally-append x (a .free) (flat secsOf (a .slots))))
+  all-low x h = r .once .low x (omega (arith, tally-all x))
 
   pub all-high : (x : ℕ) → 1 ≤ tally x (a .free) + tally x (flat secsOf (a .slots)) → x < (M + 1) * S
-  all-high x h = r .once .high x (omega (arith, tally-append x (a .free) (flat secsOf (a .slots))))
+  all-high x h = r .once .high x (omega (arith, tally-all x))
 
-  pub slot-le : (s x : ℕ) → s < length (slotsOf ds) → tally x (secsOf (getD (a .slots) s noFile)) ≤ tally x (flat secsOf (a .slots))
+  -- a sector that is free, or a file's, is none of the directory
+  pub all-off : (x : ℕ) → 1 ≤ tally x (a .free) + tally x (flat secsOf (a .slots)) → tally x (a .dir) ≡ 0
+  all-off x h = omega (arith, three-le x, tally-data S (a .dir) x (all-low x h))
+
+  pub slot-le : (s x : ℕ) → s < length (slotsOf (a .dir)) → tally x (secsOf (getD (a .slots) s noFile)) ≤ tally x (flat secsOf (a .slots))
   slot-le s x b = tally-one secsOf x (a .slots) s noFile (omega (arith, r .ns))
 
   pub long : 2560 ≤ length img
   long = omega (arith, r .shaped .size, room-for M S z)
 
   -- blocks other than n: the file that they have open stays as it is
-  blocks-step : (tab′ : List ℕ) (n : ℕ) (b : Block) (slots′ : List File) → n < 8 → Turn tab tab′ n → Keeps S (slotsOf ds) tab′ n slots′ b
+  blocks-step : (tab′ : List ℕ) (n : ℕ) (b : Block) (slots′ : List File) → n < 8 → Turn tab tab′ n → Keeps S (slotsOf (a .dir)) tab′ n slots′ b
       → ((n′ : ℕ) → n′ < 8 → n′ ≢ n → 1 ≤ opens (getD (a .blocks) n′ closed) → (s : ℕ) → suc s ≡ opens (getD (a .blocks) n′ closed) → getD slots′ s noFile ≡ getD (a .slots) s noFile)
-      → (n′ : ℕ) → n′ < 8 → Keeps S (slotsOf ds) tab′ n′ slots′ (getD (set (a .blocks) n b) n′ closed)
+      → (n′ : ℕ) → n′ < 8 → Keeps S (slotsOf (a .dir)) tab′ n′ slots′ (getD (set (a .blocks) n b) n′ closed)
   blocks-step tab′ n b slots′ h t k o n′ h′ = go (ℕ-discrete n′ n)
     where
-      go : Dec (n′ ≡ n) → Keeps S (slotsOf ds) tab′ n′ slots′ (getD (set (a .blocks) n b) n′ closed)
+      go : Dec (n′ ≡ n) → Keeps S (slotsOf (a .dir)) tab′ n′ slots′ (getD (set (a .blocks) n b) n′ closed)
       go (yes e) =
-          subst (λ (c : ℕ). Keeps S (slotsOf ds) tab′ c slots′ (getD (set (a .blocks) n b) c closed)) (sym e)
-          (subst (λ (u : Block). Keeps S (slotsOf ds) tab′ n slots′ u) (sym (getD-set-same (a .blocks) n b closed (omega (arith, r .nb)))) k)
+          subst (λ (c : ℕ). Keeps S (slotsOf (a .dir)) tab′ c slots′ (getD (set (a .blocks) n b) c closed)) (sym e)
+          (subst (λ (u : Block). Keeps S (slotsOf (a .dir)) tab′ n slots′ u) (sym (getD-set-same (a .blocks) n b closed (omega (arith, r .nb)))) k)
       go (no e) =
-          subst (λ (u : Block). Keeps S (slotsOf ds) tab′ n′ slots′ u) (sym (getD-set-other (a .blocks) n n′ b closed e))
-          (keeps-same S (slotsOf ds) tab tab′ n′ (a .slots) slots′ (getD (a .blocks) n′ closed) (t .others n′ e) (o n′ h′ e) (r .keeps n′ h′))
+          subst (λ (u : Block). Keeps S (slotsOf (a .dir)) tab′ n′ slots′ u) (sym (getD-set-other (a .blocks) n n′ b closed e))
+          (keeps-same S (slotsOf (a .dir)) tab tab′ n′ (a .slots) slots′ (getD (a .blocks) n′ closed) (t .others n′ e) (o n′ h′ e) (r .keeps n′ h′))
 
   -- block n becomes b: it writes no slot that another has open, and opens none that another writes
-  alone-step : (n : ℕ) (b : Block) → n < 8
+  pub alone-step : (n : ℕ) (b : Block) → n < 8
       → ((n′ : ℕ) → n′ < 8 → n′ ≢ n → 1 ≤ writes b → writes b ≢ opens (getD (a .blocks) n′ closed))
       → ((n′ : ℕ) → n′ < 8 → n′ ≢ n → 1 ≤ opens b → writes (getD (a .blocks) n′ closed) ≢ opens b)
       → (x y : ℕ) → x ≢ y → x < 8 → y < 8 → 1 ≤ writes (getD (set (a .blocks) n b) x closed) → writes (getD (set (a .blocks) n b) x closed) ≢ opens (getD (set (a .blocks) n b) y closed)
@@ -258,15 +316,17 @@ module _ (M S : ℕ) (z : Shape M S) (ds : List ℕ) (d : Listing S ds) (img tab
       go (no e) (no e′) = rw (getD-set-other (a .blocks) n x b closed e, getD-set-other (a .blocks) n y b closed e′) (r .alone x y ne hx hy)
 
   -- the image is as it was: block n alone changes
-  pub step-block : (tab′ : List ℕ) (n : ℕ) (b : Block) → n < 8 → Turn tab tab′ n → Keeps S (slotsOf ds) tab′ n (a .slots) b
+  pub step-block : (tab′ : List ℕ) (n : ℕ) (b : Block) → n < 8 → Turn tab tab′ n → Keeps S (slotsOf (a .dir)) tab′ n (a .slots) b
       → ((n′ : ℕ) → n′ < 8 → n′ ≢ n → 1 ≤ writes b → writes b ≢ opens (getD (a .blocks) n′ closed))
       → ((n′ : ℕ) → n′ < 8 → n′ ≢ n → 1 ≤ opens b → writes (getD (a .blocks) n′ closed) ≢ opens b)
-      → Agrees M S ds img tab′ (setBlock a n b)
+      → Agrees M S img tab′ (setBlock a n b)
   step-block tab′ n b h t k p q =
       record {
         shaped = r .shaped;
         tlen = t .len ∙ r .tlen;
+        listing = r .listing;
         dir = r .dir;
+        heads = r .heads;
         ns = r .ns;
         nb = length-set (a .blocks) n b ∙ r .nb;
         free = r .free;
@@ -280,20 +340,22 @@ module _ (M S : ℕ) (z : Shape M S) (ds : List ℕ) (d : Listing S ds) (img tab
         aside = r .aside;
       }
 
-  pub step : (img′ tab′ ks fr : List ℕ) (vs : List (List ℕ)) (n s : ℕ) (f : File) (b : Block) → n < 8 → s < length (slotsOf ds) → Frame S ds img img′ ks s
+  pub step : (img′ tab′ ks fr : List ℕ) (vs : List (List ℕ)) (n s : ℕ) (f : File) (b : Block) → n < 8 → s < length (slotsOf (a .dir)) → Frame S (a .dir) img img′ ks s
       → Turn tab tab′ n
-      → Chain S img′ 541 fr → vs ≡ pieces 2 254 img′ fr → Holds S img′ (getD (slotsOf ds) s 0) f → Keeps S (slotsOf ds) tab′ n (set (a .slots) s f) b
+      → Chain S img′ 541 fr → vs ≡ pieces 2 254 img′ fr → Holds S img′ (getD (slotsOf (a .dir)) s 0) f → Keeps S (slotsOf (a .dir)) tab′ n (set (a .slots) s f) b
       → ((x : ℕ) → 1 ≤ tally x ks → 1 ≤ tally x (a .free) + tally x (secsOf (getD (a .slots) s noFile)))
       → ((x : ℕ) → tally x fr + tally x (secsOf f) ≡ tally x (a .free) + tally x (secsOf (getD (a .slots) s noFile)))
       → ((n′ : ℕ) → n′ < 8 → n′ ≢ n → opens (getD (a .blocks) n′ closed) ≢ suc s)
       → ((n′ : ℕ) → n′ < 8 → n′ ≢ n → 1 ≤ writes b → writes b ≢ opens (getD (a .blocks) n′ closed))
       → ((n′ : ℕ) → n′ < 8 → n′ ≢ n → 1 ≤ opens b → writes (getD (a .blocks) n′ closed) ≢ opens b)
-      → Agrees M S ds img′ tab′ (setFree a fr vs s f n b)
+      → Agrees M S img′ tab′ (setFree a fr vs s f n b)
   step img′ tab′ ks fr vs n s f b hn hs g t fc sp hf kb inks tal other p q =
       record {
         shaped = record { last = g .shape 550 (omega arith) (omega arith) ∙ r .shaped .last; per = g .shape 551 (omega arith) (omega arith) ∙ r .shaped .per; size = g .len ∙ r .shaped .size };
         tlen = t .len ∙ r .tlen;
-        dir = seg-same S img img′ ds 0 (λ j i h c. g .links j i (d .low j h) (d .high j h) c) (r .dir);
+        listing = r .listing;
+        dir = seg-same S img img′ (a .dir) 0 (λ j i h c. g .heads j i h (omega arith)) (r .dir);
+        heads = r .heads ∙ sym (pieces-same 2 14 img img′ (a .dir) (λ j i t u v. g .heads j i t (omega arith)));
         ns = length-set (a .slots) s f ∙ r .ns;
         nb = length-set (a .blocks) n b ∙ r .nb;
         free = fc;
@@ -301,11 +363,12 @@ module _ (M S : ℕ) (z : Shape M S) (ds : List ℕ) (d : Listing S ds) (img tab
         keeps = blocks-step tab′ n b (set (a .slots) s f) hn t kb
             (λ n′ h′ e o s′ z. getD-set-other (a .slots) s s′ f noFile (λ w. other n′ h′ e (sym z ∙ ap suc w)));
         alone = alone-step n b hn p q;
-        once = once-eq S ((M + 1) * S) (a .free ++ flat secsOf (a .slots)) (fr ++ flat secsOf (set (a .slots) s f))
+        once = once-eq S ((M + 1) * S) (a .free ++ (dataOf S (a .dir) ++ flat secsOf (a .slots))) (fr ++ (dataOf S (a .dir) ++ flat secsOf (set (a .slots) s f)))
             (λ x. omega (
               arith,
-              tally-append x (a .free) (flat secsOf (a .slots)),
-              tally-append x fr (flat secsOf (set (a .slots) s f)),
+              tally-all x,
+              tally-append x fr (dataOf S (a .dir) ++ flat secsOf (set (a .slots) s f)),
+              tally-append x (dataOf S (a .dir)) (flat secsOf (set (a .slots) s f)),
               tally-set secsOf x (a .slots) s f noFile (omega (arith, r .ns)),
               tal x,
             ))
@@ -313,10 +376,10 @@ module _ (M S : ℕ) (z : Shape M S) (ds : List ℕ) (d : Listing S ds) (img tab
         spare = sp;
         small = λ x w. g .small x w (r .small x w);
         len = g .len ∙ r .len;
-        aside = λ x low rec off. g .aside x low rec (off s hs) ∙ r .aside x low rec off;
+        aside = λ x low rec off. g .aside x low rec off ∙ r .aside x low rec off;
       }
     where
-      clear : (s′ : ℕ) → s′ < length (slotsOf ds) → s′ ≢ s → (x : ℕ) → 1 ≤ tally x (secsOf (getD (a .slots) s′ noFile)) → tally x ks ≡ 0
+      clear : (s′ : ℕ) → s′ < length (slotsOf (a .dir)) → s′ ≢ s → (x : ℕ) → 1 ≤ tally x (secsOf (getD (a .slots) s′ noFile)) → tally x ks ≡ 0
       clear s′ b′ ne x t = go (tally x ks) refl
         where
           go : (c : ℕ) → tally x ks ≡ c → c ≡ 0
@@ -329,13 +392,14 @@ module _ (M S : ℕ) (z : Shape M S) (ds : List ℕ) (d : Listing S ds) (img tab
                 tally-two secsOf x (a .slots) s′ s noFile ne (omega (arith, r .ns)) (omega (arith, r .ns)),
               ))
 
-      one : (s′ : ℕ) → s′ < length (slotsOf ds) → Dec (s′ ≡ s) → Holds S img′ (getD (slotsOf ds) s′ 0) (getD (set (a .slots) s f) s′ noFile)
+      one : (s′ : ℕ) → s′ < length (slotsOf (a .dir)) → Dec (s′ ≡ s) → Holds S img′ (getD (slotsOf (a .dir)) s′ 0) (getD (set (a .slots) s f) s′ noFile)
       one s′ b′ (yes e) =
-          subst (λ (k : ℕ). Holds S img′ (getD (slotsOf ds) k 0) (getD (set (a .slots) s f) k noFile)) (sym e)
-          (subst (λ (u : File). Holds S img′ (getD (slotsOf ds) s 0) u) (sym (getD-set-same (a .slots) s f noFile (omega (arith, r .ns)))) hf)
+          subst (λ (k : ℕ). Holds S img′ (getD (slotsOf (a .dir)) k 0) (getD (set (a .slots) s f) k noFile)) (sym e)
+          (subst (λ (u : File). Holds S img′ (getD (slotsOf (a .dir)) s 0) u) (sym (getD-set-same (a .slots) s f noFile (omega (arith, r .ns)))) hf)
       one s′ b′ (no e) =
-          subst (λ (u : File). Holds S img′ (getD (slotsOf ds) s′ 0) u) (sym (getD-set-other (a .slots) s s′ f noFile e))
-          (holds-same S img img′ (getD (slotsOf ds) s′ 0) (getD (a .slots) s′ noFile)
+          subst (λ (u : File). Holds S img′ (getD (slotsOf (a .dir)) s′ 0) u) (sym (getD-set-other (a .slots) s s′ f noFile e))
+          (holds-same S img img′ (getD (slotsOf (a .dir)) s′ 0) (getD (a .slots) s′ noFile)
           (λ i c. g .slots s′ i b′ e c)
-          (λ j i w c. g .sectors j i (all-low j (omega (arith, w, slot-le s′ j b′))) (clear s′ b′ e j w) c)
+          (λ j i w c. let t : 1 ≤ tally j (a .free) + tally j (flat secsOf (a .slots)) = omega (arith, w, slot-le s′ j b′) in
+          g .sectors j i (all-low j t) (all-off j t) (clear s′ b′ e j w) c)
           (r .holds s′ b′))

@@ -15,14 +15,13 @@ use Rattle.laws.specs.Bytes.{same-refl, same-eq, part-all}
 use Rattle.laws.specs.Tests.{both}
 use Rattle.laws.specs.Addresses.{Shape}
 use Rattle.chains.specs.Addresses.{absurd-bool}
-use Rattle.chains.specs.Directory.{Listing}
 use Rattle.demands.specs.Ledger.{Call, setting, extending, asking, File, noFile, Block, closed, Ledger, Request, asks, Fate, denied, granted, reply, slot, fileNamed, block, file, withName, called}
 use Rattle.met.specs.Relation.{writes}
 use Rattle.met.specs.Meets.{Sure, ledgerBy}
 use Rattle.met.specs.Searches.{seek-found, named-hit}
 use Rattle.met.specs.Opens.{legal-live}
 use Rattle.met.specs.Tidy.{nameOf, Tidy, found-there}
-use Rattle.met.specs.Changes.{Change, Changes, changes, length-kept, rename-legal, Slot, kept, own, fresh, lost, moved, slot-fate, writes-before, live-not-room}
+use Rattle.met.specs.Changes.{Change, Changes, changes, length-grows, rename-legal, Slot, kept, own, fresh, lost, moved, slot-fate, writes-before}
 use Rattle.demands.specs.Service.{flex, Machine, answers, gave, next, entry, log}
 use Rattle.demands.specs.History.{Scene, then, history, scenes, onCall, hits, nameAfter, nameThen, Survives, Unnamed}
 use Rattle.met.specs.Runs.{Fine, Likewise, asked, beyond, likewise-set, likewise-extend, likewise-refused, likewise-asked, step}
@@ -73,7 +72,7 @@ module _ (a : Ledger) (t : Tidy (a .slots)) (s : ℕ) (f : File) (r : Rests a s 
         go : Slot a a′ n q s → file a′ s ≡ titled f u (q .rename)
         go (kept e k) = e ∙ r .is ∙ sym (still-so u refl k)
         go (own ub e) = absurd (r .quiet n h8 (ap writes e))
-        go (fresh e) = absurd (live-not-room (a .slots) s live-here e)
+        go (fresh e) = absurd-bool live-here e
         go (lost e v by g) = absurd (spared e (found-back (q .name) v))
         go (moved e v by g) =
             g (r .low) ∙ ap (λ (x : File). withName x (q .rename)) (r .is) ∙ sym (ap (λ (w : Bool). titled f w (q .rename)) (u-yes e (found-back (q .name) v)))
@@ -92,9 +91,9 @@ module _ (a : Ledger) (t : Tidy (a .slots)) (s : ℕ) (f : File) (r : Rests a s 
     rests-on =
         record {
           is = file-now;
-          low = omega (arith, length-kept a a′ n q c, r .low);
+          low = omega (arith, length-grows a a′ n q c, r .low);
           alive = alive-now;
-          quiet = λ m hm w. r .quiet m hm (writes-before a a′ n q hn c m s w (λ e. live-not-room (a .slots) s live-here e));
+          quiet = λ m hm w. r .quiet m hm (writes-before a a′ n q hn c m s w live-here);
         }
 
 -- ---- over the log
@@ -119,8 +118,8 @@ neither : (u : Bool) → pick u false false ≡ false
 neither true = refl
 neither false = refl
 
-module _ (M S : ℕ) (z : Shape M S) (ds : List ℕ) (d : Listing S ds) where
-  module _ (x : Machine) (a : Ledger) (g : Fine M S ds x a) (s : ℕ) (f : File) (r : Rests a s f) where
+module _ (M S : ℕ) (z : Shape M S) where
+  module _ (x : Machine) (a : Ledger) (g : Fine M S x a) (s : ℕ) (f : File) (r : Rests a s f) where
     -- what was not accepted, or does not ask, leaves it
     left : (c : Call) → Likewise a (then M S a (entry flex x c)) → hits 13 (f .name) (sceneOf x a c) ≡ false
         → Rests (then M S a (entry flex x c)) s (titled f (hits 13 (f .name) (sceneOf x a c)) (newName (f .name) (sceneOf x a c)))
@@ -129,7 +128,7 @@ module _ (M S : ℕ) (z : Shape M S) (ds : List ℕ) (d : Listing S ds) where
     accepted : (n b : ℕ) → n < 8 → answers flex x (asking n b) ≡ 0 → hits 12 (f .name) (sceneOf x a (asking n b)) ≡ false
         → Rests (then M S a (entry flex x (asking n b))) s (titled f (hits 13 (f .name) (sceneOf x a (asking n b))) (asks a n b .rename))
     accepted n b h q k =
-        let st = asked M S z ds d x a g n b h in
+        let st = asked M S z x a g n b h in
         rests-like (ledgerBy a (called M S a n (asks a n b))) (then M S a (entry flex x (asking n b))) (likewise-asked M S x a n b st) s
         (titled f (hits 13 (f .name) (sceneOf x a (asking n b))) (asks a n b .rename))
         (rw (eq-eqb (answers flex x (asking n b)) 0 q)
@@ -154,7 +153,7 @@ module _ (M S : ℕ) (z : Shape M S) (ds : List ℕ) (d : Listing S ds) where
         go : Dec (answers flex x (asking n b) ≡ 0) → Dec (n < 8)
             → Rests (then M S a (entry flex x (asking n b))) s (titled f (hits 13 (f .name) (sceneOf x a (asking n b))) (asks a n b .rename))
         go (no q) h = left (asking n b) (likewise-refused M S a n b _ _ q) (rw (ne-eqb (answers flex x (asking n b)) 0 q) refl)
-        go (yes q) (no h) = absurd (omega (arith, q, beyond M S z ds d x a g n b (omega arith)))
+        go (yes q) (no h) = absurd (omega (arith, q, beyond M S z x a g n b (omega arith)))
         go (yes q) (yes h) = accepted n b h q k
 
   titled-name : (f : File) (u : Bool) (nm : List ℕ) → (titled f u nm) .name ≡ pick u nm (f .name)
@@ -166,7 +165,7 @@ module _ (M S : ℕ) (z : Shape M S) (ds : List ℕ) (d : Listing S ds) where
   titled-with f false nm nm′ = refl
 
   -- it stays through every list of calls that does not delete it, and has then its name of then
-  pub rests : (cs : List Call) (x : Machine) (a : Ledger) → Fine M S ds x a → (s : ℕ) (f : File) → Rests a s f
+  pub rests : (cs : List Call) (x : Machine) (a : Ledger) → Fine M S x a → (s : ℕ) (f : File) → Rests a s f
       → Survives (f .name) (scenes M S a (log flex x cs))
       → Rests (history M S a (log flex x cs)) s (withName f (nameThen (f .name) (scenes M S a (log flex x cs))))
   unfolding log history scenes entry nameThen
@@ -178,7 +177,7 @@ module _ (M S : ℕ) (z : Shape M S) (ds : List ℕ) (d : Listing S ds) where
       let a′ = then M S a (entry flex x c) in
       let ss = scenes M S a′ (log flex (next flex x c) cs) in
       let q = titled-name f u nn in
-      let y = rests cs (next flex x c) a′ (step M S z ds d x a g c .fine) s (titled f u nn) (rest-one x a g s f r c (v .0))
+      let y = rests cs (next flex x c) a′ (step M S z x a g c .fine) s (titled f u nn) (rest-one x a g s f r c (v .0))
       (subst (λ (k : List ℕ). Survives k ss) (sym q) (v .1)) in
       subst (λ (k : File). Rests (history M S a′ (log flex (next flex x c) cs)) s k)
       (ap (λ (k : List ℕ). withName (titled f u nn) (nameThen k ss)) q ∙ titled-with f u nn (nameThen (pick u nn (f .name)) ss)) y
@@ -192,7 +191,7 @@ module _ (M S : ℕ) (z : Shape M S) (ds : List ℕ) (d : Listing S ds) where
       let y = unnamed-survives nm ss (v .2) in
       ((v .0, subst (λ (k : List ℕ). Survives k ss) (sym q) (y .0)), ap (λ (k : List ℕ). nameThen k ss) q ∙ y .1)
 
-  pub rests-same : (cs : List Call) (x : Machine) (a : Ledger) → Fine M S ds x a → (s : ℕ) (f : File) → Rests a s f
+  pub rests-same : (cs : List Call) (x : Machine) (a : Ledger) → Fine M S x a → (s : ℕ) (f : File) → Rests a s f
       → Unnamed (f .name) (scenes M S a (log flex x cs))
       → Rests (history M S a (log flex x cs)) s f
   rests-same cs x a g s f r v =

@@ -14,7 +14,6 @@ use Rattle.rules.specs.Bytes.{pick, part, one, zeros}
 use Rattle.rules.specs.Stores.{Put, put, stored, puts}
 use Rattle.rules.specs.Outcome.{Effect, effect, answer, given, onImage, onBlock, out}
 use Rattle.rules.specs.Image.{lastTrack, perTrack}
-use Rattle.rules.specs.Directory.{directory}
 use Rattle.rules.specs.Block.{blockAt, presettable, idle, activityIn, presetIn, extensionIn, extension, preset}
 use Rattle.rules.specs.Call.{call}
 use Rattle.rules.specs.Census.{Survey, survey, census}
@@ -26,7 +25,6 @@ use Rattle.laws.specs.Effects.{call-wrong, preset-quiet, extension-quiet}
 use Rattle.laws.specs.Surveys.{Sane, census-is}
 use Rattle.laws.specs.Addresses.{Shape, Shaped}
 use Rattle.chains.specs.Addresses.{Sized}
-use Rattle.chains.specs.Directory.{Listing}
 use Rattle.demands.specs.Ledger.{Call, setting, extending, asking, blockOf, Ledger, fcb, Request, asks, request, Fate, denied, granted, ended, edits, reply, gives, after, called, fate, putInto}
 use Rattle.demands.specs.Diskette.{ledgerOf}
 use Rattle.demands.specs.Service.{flex, ansOf, byteOf, Machine, outcome, answers, gave, next, entry, run, log}
@@ -37,7 +35,7 @@ use Rattle.met.specs.Meets.{Sure, putsBy, ledgerBy, Met}
 use Rattle.met.specs.Calls.{call-met, preset-still, extension-still, offset-is, extension-length}
 use Rattle.met.specs.Tidy.{Tidy}
 use Rattle.met.specs.Changes.{Changes, changes, forms-kept, tidy-change, own-live}
-use Rattle.met.specs.Survey.{start-listing, start-agrees, start-tidy}
+use Rattle.met.specs.Survey.{start-agrees, start-tidy}
 use Rattle.met.specs.Forms.{request-in, preset-in, extension-in, Formed, formed-start, formed-puts, formed-beyond}
 
 -- ---- what a preset or an extension puts lies in the block
@@ -65,17 +63,19 @@ nothing-stored img (effect a b (s ∷ ss) ps) h = absurd (omega arith)
 
 -- ---- machine and ledger agree, block by block too, and the directory is tidy
 
-pub record Fine (M S : ℕ) (ds : List ℕ) (x : Machine) (a : Ledger) : Type 0 where
-  pub agrees : Agrees M S ds (x .img) (x .tab) a
+pub record Fine (M S : ℕ) (x : Machine) (a : Ledger) : Type 0 where
+  pub agrees : Agrees M S (x .img) (x .tab) a
   pub tidy : Tidy (a .slots)
   pub formed : Formed (x .tab) (a .fcbs)
 
 -- the bytes of blocks have no say in the relation
-reform : (M S : ℕ) (ds img tab : List ℕ) (a : Ledger) (n : ℕ) (ps : List Put) → Agrees M S ds img tab a → Agrees M S ds img tab (putInto a n ps)
-reform M S ds img tab a n ps r = record {
+reform : (M S : ℕ) (img tab : List ℕ) (a : Ledger) (n : ℕ) (ps : List Put) → Agrees M S img tab a → Agrees M S img tab (putInto a n ps)
+reform M S img tab a n ps r = record {
   shaped = r .shaped;
   tlen = r .tlen;
+  listing = r .listing;
   dir = r .dir;
+  heads = r .heads;
   ns = r .ns;
   nb = r .nb;
   free = r .free;
@@ -90,8 +90,8 @@ reform M S ds img tab a n ps r = record {
 }
 
 -- a call of ours in the ledger
-pub record Step (M S : ℕ) (ds : List ℕ) (x : Machine) (a : Ledger) (c : Call) : Type 0 where
-  pub fine : Fine M S ds (next flex x c) (then M S a (entry flex x c))
+pub record Step (M S : ℕ) (x : Machine) (a : Ledger) (c : Call) : Type 0 where
+  pub fine : Fine M S (next flex x c) (then M S a (entry flex x c))
   pub ans : answers flex x c ≡ reply (fate M S a c)
   pub byte : gave flex x c ≡ gives (fate M S a c)
 
@@ -118,7 +118,7 @@ ended-ledger : (a : Ledger) (φ : Fate) → ledgerBy a (ended φ) ≡ ledgerBy a
 ended-ledger a (denied e) = refl
 ended-ledger a (granted b a′ ps) = refl
 
-module _ (M S : ℕ) (z : Shape M S) (ds : List ℕ) (d : Listing S ds) (x : Machine) (a : Ledger) (f : Fine M S ds x a) where
+module _ (M S : ℕ) (z : Shape M S) (x : Machine) (a : Ledger) (f : Fine M S x a) where
   -- what a block asks for stands in its bytes
   pub asks-is : (n b : ℕ) → n < 8 → request (x .tab) (320 * n) b ≡ asks a n b
   asks-is n b h = sym (request-in (x .tab) (320 * n) b) ∙ ap (λ (m : List ℕ). request m 0 b) (f .formed .is n h)
@@ -128,10 +128,10 @@ module _ (M S : ℕ) (z : Shape M S) (ds : List ℕ) (d : Listing S ds) (x : Mac
     abbrev φ : Fate
     φ = called M S a n (asks a n b)
 
-    met : Met M S ds (x .img) (x .tab) a n (call (x .img) (x .tab) n b) (ended φ)
+    met : Met M S (x .img) (x .tab) a n (call (x .img) (x .tab) n b) (ended φ)
     met =
-        subst (λ (q : Request). Met M S ds (x .img) (x .tab) a n (call (x .img) (x .tab) n b) (ended (called M S a n q))) (asks-is n b hn)
-        (call-met M S z ds d (x .img) (x .tab) a (f .agrees) n hn b)
+        subst (λ (q : Request). Met M S (x .img) (x .tab) a n (call (x .img) (x .tab) n b) (ended (called M S a n q))) (asks-is n b hn)
+        (call-met M S z (x .img) (x .tab) a (f .agrees) n hn b)
 
     -- the ledger after it
     then-by : (ψ : Fate) → Sure ψ → (e : ℕ) → e ≡ reply ψ → pick (eqb e 0) (after a n ψ) (putInto a n (put 1 (one e) ∷ [])) ≡ putInto (ledgerBy a ψ) n (putsBy ψ)
@@ -156,21 +156,21 @@ module _ (M S : ℕ) (z : Shape M S) (ds : List ℕ) (d : Listing S ds) (x : Mac
     tidy-by (denied e) c = f .tidy
     tidy-by (granted v a′ ps) c =
         tidy-change a (f .tidy) a′ n (asks a n b) (length-part (fcb a n) (0 + 4) 11) (length-part (fcb a n) (0 + 53) 11)
-        (own-live M S ds (x .img) (x .tab) a (f .agrees) n hn) c
+        (own-live M S (x .img) (x .tab) a (f .agrees) n hn) c
 
     forms-by : (ψ : Fate) → Changes a n (asks a n b) ψ → (ledgerBy a ψ) .fcbs ≡ a .fcbs
     forms-by (denied e) c = refl
     forms-by (granted v a′ ps) c = forms-kept a a′ n (asks a n b) c
 
-    ask-fine : Fine M S ds (next flex x (asking n b)) (putInto (ledgerBy a φ) n (putsBy (ended φ)))
+    ask-fine : Fine M S (next flex x (asking n b)) (putInto (ledgerBy a φ) n (putsBy (ended φ)))
     unfolding next outcome
     ask-fine =
         let ch = changes M S a n (asks a n b) in
         let tab′ = puts (x .tab) (320 * n) (onBlock (call (x .img) (x .tab) n b)) in
         let fs = forms-by φ ch in
         record {
-          agrees = reform M S ds (stored (x .img) (onImage (call (x .img) (x .tab) n b))) tab′ (ledgerBy a φ) n (putsBy (ended φ))
-              (subst (λ (y : Ledger). Agrees M S ds (stored (x .img) (onImage (call (x .img) (x .tab) n b))) tab′ y) (ended-ledger a φ) (met .rep));
+          agrees = reform M S (stored (x .img) (onImage (call (x .img) (x .tab) n b))) tab′ (ledgerBy a φ) n (putsBy (ended φ))
+              (subst (λ (y : Ledger). Agrees M S (stored (x .img) (onImage (call (x .img) (x .tab) n b))) tab′ y) (ended-ledger a φ) (met .rep));
           tidy = tidy-by φ ch;
           formed = subst (λ (y : List (List ℕ)). Formed tab′ (set y n (puts (getD y n []) 0 (putsBy (ended φ))))) (sym fs)
               (subst (λ (ps : List Put). Formed tab′ (set (a .fcbs) n (puts (getD (a .fcbs) n []) 0 ps))) (met .laid)
@@ -184,28 +184,28 @@ module _ (M S : ℕ) (z : Shape M S) (ds : List ℕ) (d : Listing S ds) (x : Mac
         ask-fine .formed .is n hn ∙ getD-set-same ((ledgerBy a φ) .fcbs) n (puts (fcb (ledgerBy a φ) n) 0 (putsBy (ended φ))) [] (omega (arith, ap length fs, f .formed .count))
         ∙ ap (λ (y : List (List ℕ)). puts (getD y n []) 0 (putsBy (ended φ))) fs
 
-    pub ask-step : Step M S ds x a (asking n b)
+    pub ask-step : Step M S x a (asking n b)
     unfolding outcome
     ask-step = record {
-      fine = subst (λ (y : Ledger). Fine M S ds (next flex x (asking n b)) y) (sym (asked .is)) ask-fine;
+      fine = subst (λ (y : Ledger). Fine M S (next flex x (asking n b)) y) (sym (asked .is)) ask-fine;
       ans = met .ans ∙ ap reply (sym fate-here);
       byte = met .byte ∙ ap gives (sym fate-here);
     }
 
   -- a block that there is not: nothing happens
-  ask-beyond : (n b : ℕ) → 8 ≤ n → Step M S ds x a (asking n b)
+  ask-beyond : (n b : ℕ) → 8 ≤ n → Step M S x a (asking n b)
   unfolding next then entry outcome fate
   ask-beyond n b h =
       let e : call (x .img) (x .tab) n b ≡ effect 13 0 [] [] = call-wrong (x .img) (x .tab) n b (λ p q. omega arith) in
-      let after-it : Fine M S ds x (putInto a n (put 1 (one 13) ∷ [])) =
+      let after-it : Fine M S x (putInto a n (put 1 (one 13) ∷ [])) =
       record {
-        agrees = reform M S ds (x .img) (x .tab) a n (put 1 (one 13) ∷ []) (f .agrees);
+        agrees = reform M S (x .img) (x .tab) a n (put 1 (one 13) ∷ []) (f .agrees);
         tidy = f .tidy;
         formed = formed-beyond (x .tab) (a .fcbs) (f .formed) (f .agrees .tlen) n (puts (fcb a n) 0 (put 1 (one 13) ∷ [])) h;
       } in
       record {
         fine = subst
-            (λ (w : Effect). Fine M S ds (record { img = stored (x .img) (onImage w); tab = puts (x .tab) (blockAt n) (onBlock w) })
+            (λ (w : Effect). Fine M S (record { img = stored (x .img) (onImage w); tab = puts (x .tab) (blockAt n) (onBlock w) })
             (pick (eqb (answer w) 0) (after a n (pick (ltb n 8) (ended (called M S a n (asks a n b))) (denied 13))) (putInto a n (put 1 (one (answer w)) ∷ []))))
             (sym e) after-it;
         ans = ap answer e ∙ sym (ap (λ (u : Bool). reply (pick u (ended (called M S a n (asks a n b))) (denied 13))) (le-ltb n 8 h));
@@ -214,15 +214,15 @@ module _ (M S : ℕ) (z : Shape M S) (ds : List ℕ) (d : Listing S ds) (x : Mac
 
   -- ---- a preset, a default extension: an effect that stores nothing, and puts nothing where it is refused
   module _ (n : ℕ) (e e′ : Effect) (hn : n < 8) (same : e′ ≡ e) (within : Each Within (onBlock e)) (refused : answer e ≢ 0 → onBlock e ≡ [])
-      (still : Agrees M S ds (x .img) (puts (x .tab) (320 * n) (onBlock e)) a) where
-    edit-fine : Fine M S ds (record { img = x .img; tab = puts (x .tab) (320 * n) (onBlock e) }) (pick (eqb (answer e) 0) (after a n (edits a e′)) a)
-    edit-fine = subst (λ (y : Effect). Fine M S ds (record { img = x .img; tab = puts (x .tab) (320 * n) (onBlock e) }) (pick (eqb (answer e) 0) (after a n (edits a y)) a)) (sym same) (go (ℕ-discrete (answer e) 0))
+      (still : Agrees M S (x .img) (puts (x .tab) (320 * n) (onBlock e)) a) where
+    edit-fine : Fine M S (record { img = x .img; tab = puts (x .tab) (320 * n) (onBlock e) }) (pick (eqb (answer e) 0) (after a n (edits a e′)) a)
+    edit-fine = subst (λ (y : Effect). Fine M S (record { img = x .img; tab = puts (x .tab) (320 * n) (onBlock e) }) (pick (eqb (answer e) 0) (after a n (edits a y)) a)) (sym same) (go (ℕ-discrete (answer e) 0))
       where
-        go : Dec (answer e ≡ 0) → Fine M S ds (record { img = x .img; tab = puts (x .tab) (320 * n) (onBlock e) }) (pick (eqb (answer e) 0) (after a n (edits a e)) a)
+        go : Dec (answer e ≡ 0) → Fine M S (record { img = x .img; tab = puts (x .tab) (320 * n) (onBlock e) }) (pick (eqb (answer e) 0) (after a n (edits a e)) a)
         go (yes h) =
             rw (eq-eqb (answer e) 0 h)
             (record {
-              agrees = reform M S ds (x .img) (puts (x .tab) (320 * n) (onBlock e)) a n (onBlock e) still;
+              agrees = reform M S (x .img) (puts (x .tab) (320 * n) (onBlock e)) a n (onBlock e) still;
               tidy = f .tidy;
               formed = formed-puts (x .tab) (a .fcbs) (f .formed) (f .agrees .tlen) n (onBlock e) hn within;
             })
@@ -254,7 +254,7 @@ module _ (M S : ℕ) (z : Shape M S) (ds : List ℕ) (d : Listing S ds) (x : Mac
   -- a preset or an extension of block n, whose effect on the table is e and on the ledger's bytes e′
   edited : (c : Call) (n : ℕ) (e e′ : Effect) → outcome flex x c ≡ out (answer e) 0 (x .img) (puts (x .tab) (320 * n) (onBlock e))
       → fate M S a c ≡ edits a e′ → blockOf c ≡ n → ((v : ℕ) → noted a c v ≡ a) → n < 8 → e′ ≡ e → Each Within (onBlock e) → (answer e ≢ 0 → onBlock e ≡ [])
-      → Agrees M S ds (x .img) (puts (x .tab) (320 * n) (onBlock e)) a → Step M S ds x a c
+      → Agrees M S (x .img) (puts (x .tab) (320 * n) (onBlock e)) a → Step M S x a c
   unfolding next then entry
   edited c n e e′ o ft bc nt hn same within refused still = record {
     fine = rw (o, ft, bc, nt (answer e)) (edit-fine n e e′ hn same within refused still);
@@ -264,7 +264,7 @@ module _ (M S : ℕ) (z : Shape M S) (ds : List ℕ) (d : Listing S ds) (x : Mac
 
   -- of a block that there is not: nothing happens
   unedited : (c : Call) → outcome flex x c ≡ out 13 0 (x .img) (x .tab) → fate M S a c ≡ denied 13 → ((v : ℕ) → noted a c v ≡ a)
-      → Step M S ds x a c
+      → Step M S x a c
   unfolding next then entry
   unedited c o ft nt = record {
     fine = rw (o, nt 13) f;
@@ -276,43 +276,43 @@ module _ (M S : ℕ) (z : Shape M S) (ds : List ℕ) (d : Listing S ds) (x : Mac
   edit-step : (c : Call) (n : ℕ) (e e′ w : Effect) → w ≡ pick (eqb (length (x .tab)) 2560) (pick (ltb n 8) e (effect 13 0 [] [])) (effect 13 0 [] [])
       → outcome flex x c ≡ out (answer w) 0 (x .img) (puts (x .tab) (320 * n) (onBlock w)) → fate M S a c ≡ pick (ltb n 8) (edits a e′) (denied 13) → blockOf c ≡ n
       → ((v : ℕ) → noted a c v ≡ a) → (n < 8 → e′ ≡ e) → Each Within (onBlock e) → (answer w ≢ 0 → onBlock w ≡ []) → length (onImage w) ≤ 0
-      → Agrees M S ds (stored (x .img) (onImage w)) (puts (x .tab) (320 * n) (onBlock w)) a → Step M S ds x a c
+      → Agrees M S (stored (x .img) (onImage w)) (puts (x .tab) (320 * n) (onBlock w)) a → Step M S x a c
   edit-step c n e e′ w whole o ft bc nt same within refused few still = go (decLt n 8)
     where
-      go : Dec (n < 8) → Step M S ds x a c
+      go : Dec (n < 8) → Step M S x a c
       go (yes h) =
           let is : w ≡ e = whole ∙ on-table n e h in
           edited c n e e′ (o ∙ ap (λ (y : Effect). out (answer y) 0 (x .img) (puts (x .tab) (320 * n) (onBlock y))) is)
           (ft ∙ ap (λ (u : Bool). pick u (edits a e′) (denied 13)) (lt-ltb n 8 h)) bc nt h (same h) within (subst (λ (y : Effect). answer y ≢ 0 → onBlock y ≡ []) is refused)
-          (subst (λ (y : Effect). Agrees M S ds (x .img) (puts (x .tab) (320 * n) (onBlock y)) a) is
-          (subst (λ (m : List ℕ). Agrees M S ds m (puts (x .tab) (320 * n) (onBlock w)) a) (nothing-stored (x .img) w few) still))
+          (subst (λ (y : Effect). Agrees M S (x .img) (puts (x .tab) (320 * n) (onBlock y)) a) is
+          (subst (λ (m : List ℕ). Agrees M S m (puts (x .tab) (320 * n) (onBlock w)) a) (nothing-stored (x .img) w few) still))
       go (no h) =
           unedited c (o ∙ ap (λ (y : Effect). out (answer y) 0 (x .img) (puts (x .tab) (320 * n) (onBlock y))) (whole ∙ off-table n e (omega arith)))
           (ft ∙ ap (λ (u : Bool). pick u (edits a e′) (denied 13)) (le-ltb n 8 (omega arith))) nt
 
-  set-step : (n i v : ℕ) → Step M S ds x a (setting n i v)
+  set-step : (n i v : ℕ) → Step M S x a (setting n i v)
   unfolding outcome fate preset
   set-step n i v =
       let quiet = preset-quiet (x .img) (x .tab) n i v in
       edit-step (setting n i v) n (presetIn (x .tab) (320 * n) i v) (presetIn (fcb a n) 0 i v) (preset (x .tab) n i v) refl refl refl refl (λ w. refl)
       (λ h. ap (λ (m : List ℕ). presetIn m 0 i v) (sym (f .formed .is n h)) ∙ preset-in (x .tab) (320 * n) i v)
-      (preset-within (x .tab) (320 * n) i v) (quiet .1) (quiet .0 .few) (preset-still M S z ds d (x .img) (x .tab) a (f .agrees) n i v)
+      (preset-within (x .tab) (320 * n) i v) (quiet .1) (quiet .0 .few) (preset-still M S z (x .img) (x .tab) a (f .agrees) n i v)
 
-  extend-step : (n c : ℕ) → Step M S ds x a (extending n c)
+  extend-step : (n c : ℕ) → Step M S x a (extending n c)
   unfolding outcome fate extension
   extend-step n c =
       let quiet = extension-quiet (x .img) (x .tab) n c in
       edit-step (extending n c) n (extensionIn (x .tab) (320 * n) c) (extensionIn (fcb a n) 0 c) (extension (x .tab) n c) refl refl refl refl (λ w. refl)
       (λ h. ap (λ (m : List ℕ). extensionIn m 0 c) (sym (f .formed .is n h)) ∙ extension-in (x .tab) (320 * n) c)
-      (extension-within (x .tab) (320 * n) c) (quiet .1) (quiet .0 .few) (extension-still M S z ds d (x .img) (x .tab) a (f .agrees) n c)
+      (extension-within (x .tab) (320 * n) c) (quiet .1) (quiet .0 .few) (extension-still M S z (x .img) (x .tab) a (f .agrees) n c)
 
   -- ONE CALL, whatever it is
-  pub step : (c : Call) → Step M S ds x a c
+  pub step : (c : Call) → Step M S x a c
   step (setting n i v) = set-step n i v
   step (extending n c) = extend-step n c
   step (asking n b) = go (decLt n 8)
     where
-      go : Dec (n < 8) → Step M S ds x a (asking n b)
+      go : Dec (n < 8) → Step M S x a (asking n b)
       go (yes h) = ask-step n b h
       go (no h) = ask-beyond n b (omega arith)
 
@@ -327,17 +327,19 @@ pub record Likewise (a a′ : Ledger) : Type 0 where
   pub base : a′ .base ≡ a .base
   pub free : a′ .free ≡ a .free
   pub spare : a′ .spare ≡ a .spare
+  pub dir : a′ .dir ≡ a .dir
+  pub heads : a′ .heads ≡ a .heads
   pub slots : a′ .slots ≡ a .slots
   pub blocks : a′ .blocks ≡ a .blocks
 
 likewise-puts : (a : Ledger) (n : ℕ) (ps : List Put) → Likewise a (putInto a n ps)
-likewise-puts a n ps = record { base = refl; free = refl; spare = refl; slots = refl; blocks = refl }
+likewise-puts a n ps = record { base = refl; free = refl; spare = refl; dir = refl; heads = refl; slots = refl; blocks = refl }
 
 likewise-edits : (a : Ledger) (n : ℕ) (e : Effect) (u v : Bool) → Likewise a (pick u (after a n (pick v (edits a e) (denied 13))) a)
-likewise-edits a n e false v = record { base = refl; free = refl; spare = refl; slots = refl; blocks = refl }
-likewise-edits a n e true false = record { base = refl; free = refl; spare = refl; slots = refl; blocks = refl }
+likewise-edits a n e false v = record { base = refl; free = refl; spare = refl; dir = refl; heads = refl; slots = refl; blocks = refl }
+likewise-edits a n e true false = record { base = refl; free = refl; spare = refl; dir = refl; heads = refl; slots = refl; blocks = refl }
 likewise-edits a n e true true =
-    pick-cases (λ (ψ : Fate). Likewise a (after a n ψ)) (eqb (answer e) 0) _ _ (λ h. likewise-puts a n (onBlock e)) (λ h. record { base = refl; free = refl; spare = refl; slots = refl; blocks = refl })
+    pick-cases (λ (ψ : Fate). Likewise a (after a n ψ)) (eqb (answer e) 0) _ _ (λ h. likewise-puts a n (onBlock e)) (λ h. record { base = refl; free = refl; spare = refl; dir = refl; heads = refl; slots = refl; blocks = refl })
 
 -- a preset or an extension
 pub likewise-set : (M S : ℕ) (a : Ledger) (n i v ans back : ℕ) → Likewise a (then M S a (record { made = setting n i v; ans = ans; back = back }))
@@ -361,13 +363,13 @@ likewise-asked M S x a n b k =
     (likewise-puts (ledgerBy a (called M S a n (asks a n b))) n (putsBy (ended (called M S a n (asks a n b)))))
 
 -- THE HISTORY: after every list of calls
-module _ (M S : ℕ) (z : Shape M S) (ds : List ℕ) (d : Listing S ds) where
-  pub always : (cs : List Call) (x : Machine) (a : Ledger) → Fine M S ds x a
-      → Fine M S ds (run flex x cs) (history M S a (log flex x cs)) × Told M S (scenes M S a (log flex x cs))
+module _ (M S : ℕ) (z : Shape M S) where
+  pub always : (cs : List Call) (x : Machine) (a : Ledger) → Fine M S x a
+      → Fine M S (run flex x cs) (history M S a (log flex x cs)) × Told M S (scenes M S a (log flex x cs))
   unfolding run log history scenes entry
   always [] x a f = (f, tt)
   always (c ∷ cs) x a f =
-      let s = step M S z ds d x a f c in
+      let s = step M S z x a f c in
       let u = always cs (next flex x c) (then M S a (entry flex x c)) (s .fine) in
       (u .0, (s .ans, s .byte, u .1))
 
@@ -399,10 +401,7 @@ module _ (x : Machine) (s : Start x) where
   pub start-shaped : Sized M S (x .img)
   start-shaped = record { last = refl; per = refl; size = surveyed .1 .long ∙ omega arith }
 
-  pub start-list : Listing S (directory (x .img) S)
-  start-list = start-listing M S start-shape (x .img) start-shaped (s .bytes) start-sane
-
-  pub start-fine : Fine M S (directory (x .img) S) x (begun x)
+  pub start-fine : Fine M S x (begun x)
   start-fine =
       record {
         agrees = start-agrees M S start-shape (x .img) start-shaped (s .bytes) start-sane (x .tab) (s .table) (λ n h. s .closed n h);

@@ -18,7 +18,7 @@ use Rattle.laws.specs.Bytes.{part-at, part-same, part-all, length-part, same-eq
 use Rattle.laws.specs.Addresses.{Shape}
 use Rattle.laws.specs.Tests.{both}
 use Rattle.chains.specs.Addresses.{absurd-bool}
-use Rattle.chains.specs.Directory.{Listing, directory-is, places-same}
+use Rattle.chains.specs.Directory.{directory-is, places-same}
 use Rattle.demands.specs.Ledger.{File, noFile, Block, closed, listing, reading, writing, Ledger, Sought, nowhere, slot, later, seek, fileNamed, vacantSlot, holdsOpen, busy, attributes}
 use Rattle.met.specs.Relation.{opens, writes, Keeps, Agrees}
 
@@ -126,53 +126,53 @@ seek-found cls (f ∷ fs) s h = go (cls (f .name)) refl (seek cls fs) refl h (λ
 
 -- ---- of a ledger that image and table agree with
 
-module _ (M S : ℕ) (z : Shape M S) (ds : List ℕ) (d : Listing S ds) (img tab : List ℕ) (a : Ledger) (r : Agrees M S ds img tab a) where
-  pub find-is : (name : List ℕ) → find img S name ≡ lookedUp (slotsOf ds) (fileNamed name (a .slots))
+module _ (M S : ℕ) (z : Shape M S) (img tab : List ℕ) (a : Ledger) (r : Agrees M S img tab a) where
+  pub find-is : (name : List ℕ) → find img M S name ≡ lookedUp (slotsOf (a .dir)) (fileNamed name (a .slots))
   unfolding find
   find-is name =
-      let q = directory-is M S z img ds d (r .dir) in
+      let q = directory-is M S z img (a .dir) (r .listing) (r .dir) in
       rw (q .0, q .1)
-      (scan-seek (named img name) (λ x. named x name 0) (slotsOf ds) (a .slots) (r .ns) (λ i b. named-at img _ name (getD (slotsOf ds) i 0) (r .holds i b .name)))
+      (scan-seek (named img name) (λ x. named x name 0) (slotsOf (a .dir)) (a .slots) (r .ns) (λ i b. named-at img _ name (getD (slotsOf (a .dir)) i 0) (r .holds i b .name)))
 
-  pub vacancy-is : vacancy img S ≡ lookedUp (slotsOf ds) (vacantSlot (a .slots))
+  pub vacancy-is : vacancy img M S ≡ lookedUp (slotsOf (a .dir)) (vacantSlot (a .slots))
   unfolding vacancy
   vacancy-is =
-      let q = directory-is M S z img ds d (r .dir) in
+      let q = directory-is M S z img (a .dir) (r .listing) (r .dir) in
       rw (q .0, q .1)
-      (scan-seek (vacant img) (λ x. vacant x 0) (slotsOf ds) (a .slots) (r .ns) (λ i b. vacant-at img _ (getD (slotsOf ds) i 0) (r .holds i b .name)))
+      (scan-seek (vacant img) (λ x. vacant x 0) (slotsOf (a .dir)) (a .slots) (r .ns) (λ i b. vacant-at img _ (getD (slotsOf (a .dir)) i 0) (r .holds i b .name)))
 
   -- blocks in use
-  pub uses-is : (readers : Bool) (s : ℕ) → s < length (slotsOf ds) → (n : ℕ) (b : Block) → Keeps S (slotsOf ds) tab n (a .slots) b
-      → uses readers tab (placeOf (getD (slotsOf ds) s 0)) n ≡ holdsOpen readers s b
+  pub uses-is : (readers : Bool) (s : ℕ) → s < length (slotsOf (a .dir)) → (n : ℕ) (b : Block) → Keeps S (slotsOf (a .dir)) tab n (a .slots) b
+      → uses readers tab (placeOf S (getD (slotsOf (a .dir)) s 0)) n ≡ holdsOpen readers s b
   unfolding uses counts
   uses-is true s hs n closed k = rw k refl
   uses-is false s hs n closed k = rw k refl
   uses-is true s hs n (listing p) k = rw (k .act) refl
   uses-is false s hs n (listing p) k = rw (k .act) refl
-  uses-is true s hs n (reading t j i) k = rw (k .act, k .place) (places-same M S z ds d t s (k .slot) hs)
+  uses-is true s hs n (reading t j i) k = rw (k .act, k .place) (places-same M S z (a .dir) (r .listing) t s (k .slot) hs)
   uses-is false s hs n (reading t j i) k = rw (k .act) refl
-  uses-is true s hs n (writing t ub) k = rw (k .act, k .place) (places-same M S z ds d t s (k .slot) hs)
-  uses-is false s hs n (writing t ub) k = rw (k .act, k .place) (places-same M S z ds d t s (k .slot) hs)
+  uses-is true s hs n (writing t ub) k = rw (k .act, k .place) (places-same M S z (a .dir) (r .listing) t s (k .slot) hs)
+  uses-is false s hs n (writing t ub) k = rw (k .act, k .place) (places-same M S z (a .dir) (r .listing) t s (k .slot) hs)
 
-  used-below : (readers : Bool) (s : ℕ) → s < length (slotsOf ds) → (n : ℕ) → n ≤ 8 → usedBelow readers tab (placeOf (getD (slotsOf ds) s 0)) n ≡ busy readers s (a .blocks) n
+  used-below : (readers : Bool) (s : ℕ) → s < length (slotsOf (a .dir)) → (n : ℕ) → n ≤ 8 → usedBelow readers tab (placeOf S (getD (slotsOf (a .dir)) s 0)) n ≡ busy readers s (a .blocks) n
   unfolding usedBelow busy
   used-below readers s hs zero h = refl
   used-below readers s hs (suc n) h =
       rw (uses-is readers s hs n (getD (a .blocks) n closed) (r .keeps n (omega arith)), used-below readers s hs n (omega arith)) refl
 
-  pub in-use-is : (readers : Bool) (s : ℕ) → s < length (slotsOf ds)
-      → inUse readers tab (placeOf (getD (slotsOf ds) s 0)) ≡ busy readers s (a .blocks) 8
+  pub in-use-is : (readers : Bool) (s : ℕ) → s < length (slotsOf (a .dir))
+      → inUse readers tab (placeOf S (getD (slotsOf (a .dir)) s 0)) ≡ busy readers s (a .blocks) 8
   unfolding inUse
   in-use-is readers s hs = used-below readers s hs 8 (omega arith)
 
-  pub attributes-is : (s : ℕ) → s < length (slotsOf ds) → attributesAt img (getD (slotsOf ds) s 0) ≡ attributes a s
-  attributes-is s hs = part-head img (getD (slotsOf ds) s 0 + 11) 1 ∙ ap (λ (x : List ℕ). getD x 0 0) (r .holds s hs .mode)
+  pub attributes-is : (s : ℕ) → s < length (slotsOf (a .dir)) → attributesAt img (getD (slotsOf (a .dir)) s 0) ≡ attributes a s
+  attributes-is s hs = part-head img (getD (slotsOf (a .dir)) s 0 + 11) 1 ∙ ap (λ (x : List ℕ). getD x 0 0) (r .holds s hs .mode)
 
   -- a slot that is not live is open nowhere
   pub dead-shut : (n : ℕ) → n < 8 → (s : ℕ) → live ((getD (a .slots) s noFile) .name) 0 ≡ false → opens (getD (a .blocks) n closed) ≢ suc s
   dead-shut n hn s u = go (getD (a .blocks) n closed) (r .keeps n hn)
     where
-      go : (b : Block) → Keeps S (slotsOf ds) tab n (a .slots) b → opens b ≢ suc s
+      go : (b : Block) → Keeps S (slotsOf (a .dir)) tab n (a .slots) b → opens b ≢ suc s
       go closed k q = omega arith
       go (listing p) k q = omega arith
       go (reading t j i) k q = absurd-bool (k .alive) (ap (λ (x : ℕ). live ((getD (a .slots) x noFile) .name) 0) (omega (arith, q)) ∙ u)

@@ -7,33 +7,35 @@ use Prim.Native.Nat.{ℕ, zero, suc, _+_, _-_, _*_, _/_, _%_, _≤_, _<_}
 use native.Mathlib.Omega.{arith}
 use native.Mathlib.Decide.{ℕ-discrete, decLt}
 use lib.ListN.{length, getD, set, length-set}
-use lib.Seq.{getD-set-same, getD-set-other}
+use lib.Seq.{getD-set-same, getD-set-other, getD-append-add}
 use lib.Dec.{eqb}
 use borrow.Author.Tests.{eq-eqb, ne-eqb, eqb-true}
 use Rattle.rules.specs.Bytes.{pick, within, byteAt, wordAt, zeros}
+use Rattle.rules.specs.Stores.{Put}
 use Rattle.rules.specs.Names.{legal}
-use Rattle.rules.specs.Directory.{live, directory, slotsOf, sizeAt, vacant}
+use Rattle.rules.specs.Directory.{firstSlotOf, slotsOf, live, vacant, sizeAt}
 use Rattle.rules.specs.Block.{idle}
 use Rattle.rules.specs.Files.{hasAttribute, readProtected, opened as putsOpened}
 use Rattle.rules.specs.Call.{served, fits}
 use Rattle.laws.specs.Tests.{both}
 use Rattle.laws.specs.Addresses.{Shape}
 use Rattle.chains.specs.Chain.{pieces, length-pieces}
-use Rattle.chains.specs.Directory.{Listing}
-use Rattle.demands.specs.Ledger.{Call, setting, extending, asking, File, noFile, Block, closed, listing, reading, writing, Ledger, asks, Fate, denied, granted, reply, nowhere, slot, fileNamed, vacantSlot, holdsOpen, busy, activity, block, file, attributes, entryOf, tableOf, setBlock, setFile, withLast, withName, newFile, padTo, openedToRead, openedToWrite, shutBlock, performed, called}
+use Rattle.demands.specs.Ledger.{Call, setting, extending, asking, File, noFile, Block, closed, listing, reading, writing, Ledger, Request, asks, Fate, denied, granted, reply, Sought, nowhere, slot, onSought, fileNamed, vacantSlot, slotForNew, holdsOpen, busy, activity, block, file, attributes, entryOf, tableOf, setBlock, setFile, withLast, withName, newFile, unusedSlots, addSector, padTo, openedToRead, openedToWrite, shutBlock, performed, called}
 use Rattle.demands.specs.Service.{flex, Machine, answers, next, entry, run, log}
 use Rattle.demands.specs.History.{then, history, scenes, hits, nameAfter, nameThen, Survives, sentBy, concat, front, content}
 use Rattle.demands.specs.Demands.{Start, begun, lastTrackOf, perTrackOf, told, Asks, Idle, nameOf, rest, counted, ReadBack, Kept, Created, Demand2}
 use Rattle.met.specs.Relation.{opens, writes, Writing, Keeps}
 use Rattle.met.specs.Quiet.{nobody, writes-opens}
 use Rattle.met.specs.Meets.{Sure, ledgerBy}
-use Rattle.met.specs.Searches.{seek-found}
+use Rattle.met.specs.Searches.{slot-same, seek-found}
+use Rattle.met.specs.Tidy.{slot-not}
 use Rattle.met.specs.Changes.{Changes, changes, rename-legal}
 use Rattle.met.specs.Forms.{table-is}
-use Rattle.met.specs.Runs.{Fine, Likewise, asked, beyond, likewise-asked, step, always, start-shape, start-list, start-fine}
+use Rattle.met.specs.Runs.{Fine, Likewise, asked, beyond, likewise-asked, step, always, start-shape, start-fine}
 use Rattle.met.specs.Rests.{Rests, found, sceneOf, rests-like, rests}
 use Rattle.met.specs.Sent.{called-of, concat-last, content-none, content-some, Wrote, wrote-like, written}
 use Rattle.met.specs.Got.{at-start, reads}
+use Rattle.met.specs.Stays.{history-onward, slot-stood}
 
 -- ---- zeros to the end of the sector
 
@@ -80,14 +82,14 @@ either-way : (u : Bool) (nm : List ℕ) → legal nm 0 ≡ true → legal (pick 
 either-way true nm l = l
 either-way false nm l = l
 
-module _ (M S : ℕ) (z : Shape M S) (ds : List ℕ) (d : Listing S ds) where
+module _ (M S : ℕ) (z : Shape M S) where
   -- an idle block takes the functions that want one
   fits-idle : (k act : ℕ) → k ≡ 1 → idle act ≡ true → fits k act ≡ true
   unfolding fits
   fits-idle k act e h = rw e h
 
   -- ---- the name stays legal
-  rename-ok : (x : Machine) (a : Ledger) (g : Fine M S ds x a) (n b : ℕ) (nm : List ℕ) → legal nm 0 ≡ true → (u : Bool)
+  rename-ok : (x : Machine) (a : Ledger) (g : Fine M S x a) (n b : ℕ) (nm : List ℕ) → legal nm 0 ≡ true → (u : Bool)
       → hits 13 nm (sceneOf x a (asking n b)) ≡ u → legal (pick u (asks a n b .rename) nm) 0 ≡ true
   rename-ok x a g n b nm l false e = l
   rename-ok x a g n b nm l true e =
@@ -96,39 +98,39 @@ module _ (M S : ℕ) (z : Shape M S) (ds : List ℕ) (d : Listing S ds) where
       go (eqb-true (answers flex x (asking n b)) 0 (p .0)) (eqb-true (asks a n b .code) 13 (q .0)) (decLt n 8)
     where
       go : answers flex x (asking n b) ≡ 0 → asks a n b .code ≡ 13 → Dec (n < 8) → legal (asks a n b .rename) 0 ≡ true
-      go q c (no h) = absurd (omega (arith, q, beyond M S z ds d x a g n b (omega arith)))
+      go q c (no h) = absurd (omega (arith, q, beyond M S z x a g n b (omega arith)))
       go q c (yes h) =
-          let st = asked M S z ds d x a g n b h in
+          let st = asked M S z x a g n b h in
           by (called M S a n (asks a n b)) (changes M S a n (asks a n b)) (st .sure) (st .ans)
         where
           by : (φ : Fate) → Changes a n (asks a n b) φ → Sure φ → answers flex x (asking n b) ≡ reply φ → legal (asks a n b .rename) 0 ≡ true
           by (denied v) k su an = absurd (su (sym an ∙ q))
           by (granted v a′ ps) k su an = rename-legal a a′ n (asks a n b) k c
 
-  name-ok : (x : Machine) (a : Ledger) (g : Fine M S ds x a) (c : Call) (nm : List ℕ) → legal nm 0 ≡ true → legal (nameAfter nm (sceneOf x a c)) 0 ≡ true
+  name-ok : (x : Machine) (a : Ledger) (g : Fine M S x a) (c : Call) (nm : List ℕ) → legal nm 0 ≡ true → legal (nameAfter nm (sceneOf x a c)) 0 ≡ true
   name-ok x a g (setting n i v) nm l = either-way (eqb (answers flex x (setting n i v)) 0) nm l
   name-ok x a g (extending n c) nm l = either-way (eqb (answers flex x (extending n c)) 0) nm l
   name-ok x a g (asking n b) nm l = rename-ok x a g n b nm l (hits 13 nm (sceneOf x a (asking n b))) refl
 
-  legal-then : (cs : List Call) (x : Machine) (a : Ledger) → Fine M S ds x a → (nm : List ℕ) → legal nm 0 ≡ true
+  legal-then : (cs : List Call) (x : Machine) (a : Ledger) → Fine M S x a → (nm : List ℕ) → legal nm 0 ≡ true
       → legal (nameThen nm (scenes M S a (log flex x cs))) 0 ≡ true
   unfolding log scenes entry nameThen
   legal-then [] x a g nm l = l
   legal-then (c ∷ cs) x a g nm l =
-      legal-then cs (next flex x c) (then M S a (entry flex x c)) (step M S z ds d x a g c .fine) (nameAfter nm (sceneOf x a c)) (name-ok x a g c nm l)
+      legal-then cs (next flex x c) (then M S a (entry flex x c)) (step M S z x a g c .fine) (nameAfter nm (sceneOf x a c)) (name-ok x a g c nm l)
 
   -- ---- a call whose fate is known
-  module _ (x : Machine) (a : Ledger) (g : Fine M S ds x a) (n b : ℕ) (hn : n < 8) where
+  module _ (x : Machine) (a : Ledger) (g : Fine M S x a) (n b : ℕ) (hn : n < 8) where
     pub answer-by : (φ : Fate) → called M S a n (asks a n b) ≡ φ → answers flex x (asking n b) ≡ reply φ
-    answer-by φ e = asked M S z ds d x a g n b hn .ans ∙ ap reply e
+    answer-by φ e = asked M S z x a g n b hn .ans ∙ ap reply e
 
     pub like-by : (φ : Fate) → called M S a n (asks a n b) ≡ φ → Likewise (ledgerBy a φ) (then M S a (entry flex x (asking n b)))
     like-by φ e =
         subst (λ (ψ : Fate). Likewise (ledgerBy a ψ) (then M S a (entry flex x (asking n b)))) e
-        (likewise-asked M S x a n b (asked M S z ds d x a g n b hn))
+        (likewise-asked M S x a n b (asked M S z x a g n b hn))
 
   -- ---- a file at rest is opened for read and read
-  module _ (x : Machine) (a : Ledger) (g : Fine M S ds x a) (s : ℕ) (f : File) (r : Rests a s f) (ok : legal (f .name) 0 ≡ true) (new : f .mode ≡ zeros 2)
+  module _ (x : Machine) (a : Ledger) (g : Fine M S x a) (s : ℕ) (f : File) (r : Rests a s f) (ok : legal (f .name) 0 ≡ true) (new : f .mode ≡ zeros 2)
       (m b : ℕ) (k : Asks a m 1) (i : Idle a m) (nm : nameOf a m ≡ f .name) where
     abbrev a1 : Ledger
     a1 = then M S a (entry flex x (asking m b))
@@ -138,7 +140,7 @@ module _ (M S : ℕ) (z : Shape M S) (ds : List ℕ) (d : Listing S ds) where
     unfolding hasAttribute zeros
     readable = ap (λ (y : File). readProtected (byteAt (y .mode) 0)) (r .is) ∙ ap (λ (l : List ℕ). readProtected (byteAt l 0)) new
 
-    opened : called M S a m (asks a m b) ≡ granted 0 (setBlock a m (reading s 0 0)) (putsOpened 1 ((file a s) .at) (entryOf (file a s)))
+    opened : called M S a m (asks a m b) ≡ granted 0 (setBlock a m (reading s 0 0)) (putsOpened S 1 ((file a s) .at) (entryOf (file a s)))
     unfolding performed served within openedToRead
     opened =
         let fd : fileNamed (asks a m b .name) (a .slots) ≡ slot s = ap (λ (y : List ℕ). fileNamed y (a .slots)) nm ∙ found a (g .tidy) s f r in
@@ -151,16 +153,16 @@ module _ (M S : ℕ) (z : Shape M S) (ds : List ℕ) (d : Listing S ds) where
         let l = like-by x a g m b (k .block) _ opened in
         record {
           opens = answer-by x a g m b (k .block) _ opened;
-          reads = λ cs op. reads M S z ds d cs (next flex x (asking m b)) a1 (step M S z ds d x a g (asking m b) .fine) m s 0 (concat (f .body)) (k .block)
+          reads = λ cs op. reads M S z cs (next flex x (asking m b)) a1 (step M S z x a g (asking m b) .fine) m s 0 (concat (f .body)) (k .block)
               (at-start a1 m s (concat (f .body))
               (ap (λ (bs : List Block). getD bs m closed) (l .blocks) ∙ getD-set-same (a .blocks) m (reading s 0 0) closed (omega (arith, g .agrees .nb, k .block)))
               (ap (λ (fs : List File). concat ((getD fs s noFile) .body)) (l .slots) ∙ ap (λ (y : File). concat (y .body)) (r .is))) op;
         }
 
   -- ---- a file that was written is closed
-  module _ (x : Machine) (a : Ledger) (g : Fine M S ds x a) (n s : ℕ) (nm sent : List ℕ) (hn : n < 8) (w : Wrote a n s nm sent) (b : ℕ) (k : Asks a n 4) where
-    wr : Writing S (slotsOf ds) (x .tab) n (file a s) s (w .left)
-    wr = subst (λ (y : Block). Keeps S (slotsOf ds) (x .tab) n (a .slots) y) (w .writer) (g .agrees .keeps n hn)
+  module _ (x : Machine) (a : Ledger) (g : Fine M S x a) (n s : ℕ) (nm sent : List ℕ) (hn : n < 8) (w : Wrote a n s nm sent) (b : ℕ) (k : Asks a n 4) where
+    wr : Writing S (slotsOf (a .dir)) (x .tab) n (file a s) s (w .left)
+    wr = subst (λ (y : Block). Keeps S (slotsOf (a .dir)) (x .tab) n (a .slots) y) (w .writer) (g .agrees .keeps n hn)
 
     body-length : length ((file a s) .body) ≡ length ((file a s) .secs)
     body-length = ap length (g .agrees .holds s (wr .slot) .body) ∙ length-pieces 4 252 (x .img) ((file a s) .secs)
@@ -205,7 +207,7 @@ module _ (M S : ℕ) (z : Shape M S) (ds : List ℕ) (d : Listing S ds) where
               omega (arith, q, ap writes (ap (λ (k : ℕ). getD (set (a .blocks) n closed) k closed) e ∙ getD-set-same (a .blocks) n closed closed (omega (arith, g .agrees .nb))))
           go (no e) =
               let y : writes (getD (a .blocks) m closed) ≡ suc s = ap writes (sym (getD-set-other (a .blocks) n m closed closed e)) ∙ q in
-              nobody M S z ds d (x .img) (x .tab) a (g .agrees) n hn s (w .left) (w .writer) m hm e (sym (writes-opens (getD (a .blocks) m closed) (omega (arith, y))) ∙ y)
+              nobody M S z (x .img) (x .tab) a (g .agrees) n hn s (w .left) (w .writer) m hm e (sym (writes-opens (getD (a .blocks) m closed) (omega (arith, y))) ∙ y)
 
       shut-fate : Shut (shutBlock M S a n (asks a n b) (writing s (w .left)))
       shut-fate = go (ℕ-discrete (length (w .left)) 0)
@@ -254,78 +256,47 @@ module _ (M S : ℕ) (z : Shape M S) (ds : List ℕ) (d : Listing S ds) where
       kept ok =
           let x1 = next flex x (asking n b) in
           let h1 = then M S a (entry flex x (asking n b)) in
-          let g1 = step M S z ds d x a g (asking n b) .fine in
+          let g1 = step M S z x a g (asking n b) .fine in
           let sh = shut-fate in
           let l = like-by x a g n b hn _ close-fate in
           let r1 = rests-like (ledgerBy a (shutBlock M S a n (asks a n b) (writing s (w .left)))) h1 l s (sh .f) (sh .at-rest) in
           record {
             numbers = λ cs sv.
                 let ss = scenes M S h1 (log flex x1 cs) in
-                let rs = rests M S z ds d cs x1 h1 g1 s (sh .f) r1 (subst (λ (y : List ℕ). Survives y ss) (sym (sh .name)) sv) in
-                let g2 = always M S z ds d cs x1 h1 g1 .0 in
+                let rs = rests M S z cs x1 h1 g1 s (sh .f) r1 (subst (λ (y : List ℕ). Survives y ss) (sym (sh .name)) sv) in
+                let g2 = always M S z cs x1 h1 g1 .0 in
                 sym (g2 .agrees .holds s (omega (arith, rs .low, g2 .agrees .ns)) .recs) ∙ ap (λ (f : File). f .recs) (rs .is) ∙ sh .recs;
             back = λ cs sv m c ka i e.
                 let ss = scenes M S h1 (log flex x1 cs) in
                 let nm′ = nameThen nm ss in
                 let fn : nameThen (sh .f .name) ss ≡ nm′ = ap (λ (y : List ℕ). nameThen y ss) (sh .name) in
-                let rs = rests M S z ds d cs x1 h1 g1 s (sh .f) r1 (subst (λ (y : List ℕ). Survives y ss) (sym (sh .name)) sv) in
+                let rs = rests M S z cs x1 h1 g1 s (sh .f) r1 (subst (λ (y : List ℕ). Survives y ss) (sym (sh .name)) sv) in
                 let rs2 : Rests (history M S h1 (log flex x1 cs)) s (withName (sh .f) nm′) =
                 subst (λ (y : List ℕ). Rests (history M S h1 (log flex x1 cs)) s (withName (sh .f) y)) fn rs in
                 subst (λ (l : List ℕ). ReadBack flex M S (run flex x1 cs) (history M S h1 (log flex x1 cs)) l m c) (sh .bytes)
-                (read-back (run flex x1 cs) (history M S h1 (log flex x1 cs)) (always M S z ds d cs x1 h1 g1 .0) s (withName (sh .f) nm′) rs2 (legal-then cs x1 h1 g1 nm ok) (sh .mode) m c ka i e);
+                (read-back (run flex x1 cs) (history M S h1 (log flex x1 cs)) (always M S z cs x1 h1 g1 .0) s (withName (sh .f) nm′) rs2 (legal-then cs x1 h1 g1 nm ok) (sh .mode) m c ka i e);
           }
 
-  -- ---- a new file
-  module _ (x : Machine) (a : Ledger) (g : Fine M S ds x a) (n s b : ℕ) (k : Asks a n 2) (i : Idle a n) (ok : legal (nameOf a n) 0 ≡ true)
-      (none : fileNamed (nameOf a n) (a .slots) ≡ nowhere) (space : vacantSlot (a .slots) ≡ slot s) where
-    abbrev nf : File
-    nf = newFile ((file a s) .at) (nameOf a n) (asks a n b .date)
-
+  -- ---- a new file: the call is granted the ledger a′, where block n writes the slot s
+  module _ (x : Machine) (a : Ledger) (g : Fine M S x a) (n s b : ℕ) (k : Asks a n 2) (i : Idle a n) (ok : legal (nameOf a n) 0 ≡ true)
+      (a′ : Ledger) (ps : List Put) (made : called M S a n (asks a n b) ≡ granted 0 a′ ps) (starts : Wrote a′ n s (nameOf a n) []) where
     abbrev a2 : Ledger
     a2 = then M S a (entry flex x (asking n b))
 
-    fits-two : (act : ℕ) → idle act ≡ true → fits 2 act ≡ true
-    unfolding fits
-    fits-two act h = h
-
-    made : called M S a n (asks a n b) ≡ granted 0 (setFile a s nf n (writing s [])) (putsOpened 2 (nf .at) (entryOf nf))
-    unfolding performed served within openedToWrite
-    made =
-        called-of M S a n (asks a n b) 2 (k .function) refl (k .drive) (fits-two (activity (block a n)) i)
-        ∙ (rw (k .function, ok, none, space) refl)
-
-    low : s < length (a .slots)
-    low = seek-found (λ y. vacant y 0) (a .slots) s space .low
-
-    starts : Wrote (setFile a s nf n (writing s [])) n s (nameOf a n) []
-    unfolding content counted
-    starts =
-        let sf = getD-set-same (a .slots) s nf noFile low in
-        record {
-          left = [];
-          writer = getD-set-same (a .blocks) n (writing s []) closed (omega (arith, g .agrees .nb, k .block));
-          name = ap (λ (y : File). y .name) sf;
-          mode = ap (λ (y : File). y .mode) sf;
-          bytes = ap (λ (y : File). content (y .body) []) sf;
-          whole = λ y. sym (ap (λ (y : File). 252 * length (y .secs)) sf);
-          part = λ y. absurd (omega arith);
-          recs = ap (λ (y : File). y .recs) sf ∙ ap (λ (y : File). counted 1 (length (y .secs))) (sym sf);
-        }
-
     -- its sectors are those of what was sent
-    module _ (y : Machine) (h : Ledger) (g2 : Fine M S ds y h) (sent : List ℕ) (w : Wrote h n s (nameOf a n) sent) where
-      wrt : Writing S (slotsOf ds) (y .tab) n (file h s) s (w .left)
-      wrt = subst (λ (v : Block). Keeps S (slotsOf ds) (y .tab) n (h .slots) v) (w .writer) (g2 .agrees .keeps n (k .block))
+    module _ (y : Machine) (h : Ledger) (g2 : Fine M S y h) (sent : List ℕ) (w : Wrote h n s (nameOf a n) sent) where
+      wrt : Writing S (slotsOf (h .dir)) (y .tab) n (file h s) s (w .left)
+      wrt = subst (λ (v : Block). Keeps S (slotsOf (h .dir)) (y .tab) n (h .slots) v) (w .writer) (g2 .agrees .keeps n (k .block))
 
       count : Dec (length (w .left) ≡ 0) → (length sent + 251) / 252 ≡ length ((file h s) .secs)
       count (yes q) = sectors-whole (length sent) (length ((file h s) .secs)) (w .whole q) .0
       count (no q) =
           sectors-part (length sent) (length ((file h s) .secs)) (length (w .left)) (w .part (omega arith)) (omega arith) (wrt .short) .0
 
-      size-is : sizeAt (y .img) (getD (slotsOf ds) s 0) ≡ (length sent + 251) / 252
+      size-is : sizeAt (y .img) (getD (slotsOf (h .dir)) s 0) ≡ (length sent + 251) / 252
       size-is =
           let c = g2 .agrees .holds s (wrt .slot) .chain (wrt .alive) in
-          let e : wordAt (y .img) (getD (slotsOf ds) s 0 + 17) ≡ length ((file h s) .secs) = ap (wordAt (y .img)) (omega arith) ∙ c .size in
+          let e : wordAt (y .img) (getD (slotsOf (h .dir)) s 0 + 17) ≡ length ((file h s) .secs) = ap (wordAt (y .img)) (omega arith) ∙ c .size in
           e ∙ sym (count (ℕ-discrete (length (w .left)) 0))
 
       records-are : pieces 2 2 (y .img) ((file h s) .secs) ≡ counted 1 ((length sent + 251) / 252)
@@ -334,33 +305,92 @@ module _ (M S : ℕ) (z : Shape M S) (ds : List ℕ) (d : Listing S ds) where
     pub created : Created flex M S x a n s b
     created =
         let x1 = next flex x (asking n b) in
-        let g1 = step M S z ds d x a g (asking n b) .fine in
+        let g1 = step M S z x a g (asking n b) .fine in
         let l = like-by x a g n b (k .block) _ made in
-        let w0 : Wrote a2 n s (nameOf a n) [] = wrote-like (setFile a s nf n (writing s [])) a2 l n s (nameOf a n) [] starts in
-        let hs : s < length (slotsOf ds) = omega (arith, low, g .agrees .ns) in
-        let at : file a2 s .at ≡ getD (slotsOf ds) s 0 = g1 .agrees .holds s hs .at in
+        let w0 : Wrote a2 n s (nameOf a n) [] = wrote-like a′ a2 l n s (nameOf a n) [] starts in
+        let hs : s < length (slotsOf (a2 .dir)) = wrt x1 a2 g1 [] w0 .slot in
+        let at : file a2 s .at ≡ getD (slotsOf (a2 .dir)) s 0 = g1 .agrees .holds s hs .at in
         record {
           opens = answer-by x a g n b (k .block) _ made;
           writes = λ cs op.
-              let wn = written M S z ds d cs x1 a2 g1 n s (nameOf a n) [] (k .block) w0 op in
-              let g2 = always M S z ds d cs x1 a2 g1 .0 in
+              let wn = written M S z cs x1 a2 g1 n s (nameOf a n) [] (k .block) w0 op in
+              let g2 = always M S z cs x1 a2 g1 .0 in
               let x2 = run flex x1 cs in
               let h2 = history M S a2 (log flex x1 cs) in
               let sent = sentBy n (scenes M S a2 (log flex x1 cs)) in
+              let stood = slot-stood S a2 h2 (history-onward M S z cs x1 a2 g1) s hs .1 in
               record {
                 accepts = wn .1;
-                size = ap (sizeAt (x2 .img)) at ∙ size-is x2 h2 g2 sent (wn .0);
+                size = ap (sizeAt (x2 .img)) (at ∙ sym stood) ∙ size-is x2 h2 g2 sent (wn .0);
                 records = records-are x2 h2 g2 sent (wn .0);
                 closes = λ c ka. close-accepted x2 h2 g2 n s (nameOf a n) sent (k .block) (wn .0) c ka;
                 kept = λ c ka some. kept x2 h2 g2 n s (nameOf a n) sent (k .block) (wn .0) c ka some ok;
               };
         }
 
+  fits-two : (act : ℕ) → idle act ≡ true → fits 2 act ≡ true
+  unfolding fits
+  fits-two act h = h
+
+  -- a block that writes the new file in slot s has sent nothing yet
+  starts-new : (a : Ledger) (n s o : ℕ) (nm date : List ℕ) → block a n ≡ writing s [] → file a s ≡ newFile o nm date → Wrote a n s nm []
+  unfolding content counted
+  starts-new a n s o nm date w sf = record {
+    left = [];
+    writer = w;
+    name = ap (λ (y : File). y .name) sf;
+    mode = ap (λ (y : File). y .mode) sf;
+    bytes = ap (λ (y : File). content (y .body) []) sf;
+    whole = λ y. sym (ap (λ (y : File). 252 * length (y .secs)) sf);
+    part = λ y. absurd (omega arith);
+    recs = ap (λ (y : File). y .recs) sf ∙ ap (λ (y : File). counted 1 (length (y .secs))) (sym sf);
+  }
+
+  module _ (x : Machine) (a : Ledger) (g : Fine M S x a) (n b : ℕ) (k : Asks a n 2) (i : Idle a n) (ok : legal (nameOf a n) 0 ≡ true)
+      (none : fileNamed (nameOf a n) (a .slots) ≡ nowhere) where
+    abbrev q : Request
+    q = asks a n b
+
+    hb : n < length (a .blocks)
+    hb = omega (arith, g .agrees .nb, k .block)
+
+    -- in a vacant slot
+    in-slot : (s : ℕ) → vacantSlot (a .slots) ≡ slot s → Created flex M S x a n s b
+    unfolding performed served within openedToWrite
+    in-slot s space =
+        let nf = newFile ((file a s) .at) (nameOf a n) (q .date) in
+        created x a g n s b k i ok (setFile a s nf n (writing s [])) (putsOpened S 2 (nf .at) (entryOf nf))
+        (called-of M S a n q 2 (k .function) refl (k .drive) (fits-two (activity (block a n)) i) ∙ (rw (k .function, ok, none, space) refl))
+        (starts-new (setFile a s nf n (writing s [])) n s ((file a s) .at) (nameOf a n) (q .date) (getD-set-same (a .blocks) n (writing s []) closed hb)
+        (getD-set-same (a .slots) s nf noFile (seek-found (λ y. vacant y 0) (a .slots) s space .low)))
+
+    -- in a sector that the directory gets
+    in-sector : (j : ℕ) (fr : List ℕ) → a .free ≡ j ∷ fr → vacantSlot (a .slots) ≡ nowhere → Created flex M S x a n (length (a .slots)) b
+    unfolding performed served within openedToWrite
+    in-sector j fr ef space =
+        let nf = newFile (firstSlotOf j) (nameOf a n) (q .date) in
+        let us = unusedSlots (firstSlotOf j + 24) 9 in
+        let s = length (a .slots) in
+        created x a g n s b k i ok (addSector a j fr nf n (writing s [])) (putsOpened S 2 (nf .at) (entryOf nf))
+        (called-of M S a n q 2 (k .function) refl (k .drive) (fits-two (activity (block a n)) i) ∙ (rw (k .function, ok, none, space, ef) refl))
+        (starts-new (addSector a j fr nf n (writing s [])) n s (firstSlotOf j) (nameOf a n) (q .date) (getD-set-same (a .blocks) n (writing s []) closed hb)
+        (ap (λ (m : ℕ). getD (a .slots ++ nf ∷ us) m noFile) (let e : s ≡ s + 0 = omega arith in e) ∙ getD-append-add (a .slots) (nf ∷ us) 0 noFile))
+
+    pub creates-new : (s : ℕ) → slotForNew a ≡ slot s → Created flex M S x a n s b
+    creates-new s e = go (vacantSlot (a .slots)) refl (a .free) refl e
+      where
+        go : (v : Sought) → vacantSlot (a .slots) ≡ v → (fr : List ℕ) → a .free ≡ fr
+            → onSought v (pick (eqb (length fr) 0) nowhere (slot (length (a .slots)))) (λ t. slot t) ≡ slot s → Created flex M S x a n s b
+        go (slot t) d fr ef e = subst (λ (m : ℕ). Created flex M S x a n m b) (slot-same t s e) (in-slot t d)
+        go nowhere d [] ef e = absurd (slot-not s (sym e))
+        go nowhere d (j ∷ fr) ef e =
+            subst (λ (m : ℕ). Created flex M S x a n m b) (slot-same (length (a .slots)) s (rw (ne-eqb (suc (length fr)) 0 (omega arith)) at e)) (in-sector j fr ef d)
+
 -- ---- the demand
 
 module _ (x : Machine) (st : Start x) (cs : List Call) where
-  pub fine : Fine (lastTrackOf x) (perTrackOf x) (directory (x .img) (perTrackOf x)) (run flex x cs) (told flex x cs)
-  fine = always (lastTrackOf x) (perTrackOf x) (start-shape x st) (directory (x .img) (perTrackOf x)) (start-list x st) cs x (begun x) (start-fine x st) .0
+  pub fine : Fine (lastTrackOf x) (perTrackOf x) (run flex x cs) (told flex x cs)
+  fine = always (lastTrackOf x) (perTrackOf x) (start-shape x st) cs x (begun x) (start-fine x st) .0
 
   pub table-here : run flex x cs .tab ≡ tableOf (told flex x cs)
   table-here = table-is (run flex x cs .tab) (told flex x cs .fcbs) (fine .formed) (fine .agrees .tlen)
@@ -369,5 +399,5 @@ pub demand2 : Demand2 flex
 demand2 = record {
   presets = λ x st cs n i v. ap (λ (t : List ℕ). flex .preset t n i v) (table-here x st cs);
   creates = λ x st cs n s b k i ok none space.
-      created (lastTrackOf x) (perTrackOf x) (start-shape x st) (directory (x .img) (perTrackOf x)) (start-list x st) (run flex x cs) (told flex x cs) (fine x st cs) n s b k i ok none space;
+      creates-new (lastTrackOf x) (perTrackOf x) (start-shape x st) (run flex x cs) (told flex x cs) (fine x st cs) n b k i ok none s space;
 }

@@ -11,18 +11,17 @@ use borrow.Author.Tests.{ne-eqb, eq-eqb}
 use Rattle.rules.specs.Bytes.{pick, two}
 use Rattle.rules.specs.Image.{index, isData}
 use Rattle.rules.specs.Stores.{Store, store, stored}
-use Rattle.rules.specs.Directory.{slotsOf}
+use Rattle.rules.specs.Directory.{slotsOf, lastOf}
 use Rattle.rules.specs.Transfer.{linked}
 use Rattle.laws.specs.Bytes.{over-is-sets}
 use Rattle.chains.specs.Tally.{tally, tally-head, flat}
 use Rattle.chains.specs.Once.{Once, once-length}
 use Rattle.laws.specs.Addresses.{Shape}
 use Rattle.chains.specs.Addresses.{adr, adr-zero, adr-pos, adr-small, index-adr, data-adr}
-use Rattle.chains.specs.Chain.{first, lastOf, tally-last}
-use Rattle.chains.specs.Walk.{AllData}
-use Rattle.chains.specs.Directory.{Listing}
+use Rattle.chains.specs.Chain.{first, tally-last}
+use Rattle.chains.specs.Walk.{dataOf, AllData}
 use Rattle.demands.specs.Ledger.{File, noFile, Ledger, padTo, secsOf}
-use Rattle.met.specs.Relation.{Agrees, all-le, all-low, all-high, slot-le}
+use Rattle.met.specs.Relation.{Agrees, all-le, all-low, all-high, all-off, slot-le}
 
 -- ---- lists of data sectors
 
@@ -83,28 +82,41 @@ length-flat (f ∷ ls) (suc n) h = omega (arith, length-append (secsOf f) (flat 
 
 -- ---- of slot s
 
-module _ (M S : ℕ) (z : Shape M S) (ds : List ℕ) (d : Listing S ds) (img tab : List ℕ) (a : Ledger) (r : Agrees M S ds img tab a) where
+module _ (M S : ℕ) (z : Shape M S) (img tab : List ℕ) (a : Ledger) (r : Agrees M S img tab a) where
   pub free-data : AllData M S (a .free)
-  free-data x t = (all-low M S z ds d img tab a r x (omega arith), all-high M S z ds d img tab a r x (omega arith))
+  free-data x t = (all-low M S z img tab a r x (omega arith), all-high M S z img tab a r x (omega arith))
 
-  all-count : length (a .free) + length (flat secsOf (a .slots)) ≡ M * S
+  pub free-off : (x : ℕ) → 1 ≤ tally x (a .free) → tally x (a .dir) ≡ 0
+  free-off x t = all-off M S z img tab a r x (omega arith)
+
+  abbrev everything : List ℕ
+  everything = a .free ++ (dataOf S (a .dir) ++ flat secsOf (a .slots))
+
+  all-count : length (a .free) + length (flat secsOf (a .slots)) ≤ M * S
   all-count =
-      sym (length-append (a .free) (flat secsOf (a .slots)))
-      ∙ once-length S (M * S) (a .free ++ flat secsOf (a .slots)) (subst (λ (y : ℕ). Once S y (a .free ++ flat secsOf (a .slots))) (omega arith) (r .once))
+      omega (
+        arith,
+        length-append (a .free) (dataOf S (a .dir) ++ flat secsOf (a .slots)),
+        length-append (dataOf S (a .dir)) (flat secsOf (a .slots)),
+        once-length S (M * S) everything (subst (λ (y : ℕ). Once S y everything) (omega arith) (r .once)),
+      )
 
   pub free-count : length (a .free) ≤ M * S
   free-count = omega (arith, all-count)
 
-  module _ (s : ℕ) (hs : s < length (slotsOf ds)) where
+  module _ (s : ℕ) (hs : s < length (slotsOf (a .dir))) where
     abbrev secs : List ℕ
     secs = (getD (a .slots) s noFile) .secs
 
     pub secs-data : AllData M S secs
     secs-data x h =
-        (all-low M S z ds d img tab a r x (omega (arith, slot-le M S z ds d img tab a r s x hs)), all-high M S z ds d img tab a r x (omega (arith, slot-le M S z ds d img tab a r s x hs)))
+        (all-low M S z img tab a r x (omega (arith, slot-le M S z img tab a r s x hs)), all-high M S z img tab a r x (omega (arith, slot-le M S z img tab a r s x hs)))
+
+    pub secs-off : (x : ℕ) → 1 ≤ tally x secs → tally x (a .dir) ≡ 0
+    secs-off x h = all-off M S z img tab a r x (omega (arith, slot-le M S z img tab a r s x hs))
 
     pub secs-once : (x : ℕ) → tally x (a .free) + tally x secs ≤ 1
-    secs-once x = omega (arith, all-le M S z ds d img tab a r x, slot-le M S z ds d img tab a r s x hs)
+    secs-once x = omega (arith, all-le M S z img tab a r x, slot-le M S z img tab a r s x hs)
 
     -- all chains together are short
     both-count : length (a .free) + length secs ≤ M * S

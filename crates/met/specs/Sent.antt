@@ -18,12 +18,11 @@ use Rattle.rules.specs.Call.{served, fits}
 use Rattle.laws.specs.Addresses.{Shape}
 use Rattle.chains.specs.Addresses.{absurd-bool}
 use Rattle.chains.specs.Chain.{setLast, length-pieces}
-use Rattle.chains.specs.Directory.{Listing}
 use Rattle.demands.specs.Ledger.{Call, setting, extending, asking, File, noFile, Block, closed, writing, Ledger, Request, asks, Fate, denied, granted, reply, busy, activity, block, file, setBlock, setFile, setFree, withLast, withNew, padTo, taken, transferred, performed, called}
 use Rattle.met.specs.Relation.{opens, writes, Writing, Keeps}
 use Rattle.met.specs.Searches.{not-busy, not-open}
 use Rattle.met.specs.Tidy.{nameOf}
-use Rattle.met.specs.Changes.{Change, Changes, changes, other-block, Slot, kept, own, fresh, lost, moved, slot-fate, live-not-room, open-live}
+use Rattle.met.specs.Changes.{Change, Changes, changes, other-block, Slot, kept, own, fresh, lost, moved, slot-fate, open-live}
 use Rattle.demands.specs.Service.{flex, Machine, answers, next, entry, log}
 use Rattle.demands.specs.History.{then, history, scenes, calls, Only, sentIn, sentBy, unfinished, room, Accepts, concat, front, content}
 use Rattle.demands.specs.Demands.{counted}
@@ -145,13 +144,13 @@ pub record Untouched (a a′ : Ledger) (n s : ℕ) : Type 0 where
 pub untouched : (a a′ : Ledger) (n s : ℕ) → Likewise a a′ → Untouched a a′ n s
 untouched a a′ n s l = record { same-block = ap (λ (bs : List Block). getD bs n closed) (l .blocks); same-file = ap (λ (fs : List File). getD fs s noFile) (l .slots) }
 
-module _ (M S : ℕ) (z : Shape M S) (ds : List ℕ) (d : Listing S ds) where
-  module _ (x : Machine) (a : Ledger) (g : Fine M S ds x a) (n s : ℕ) (nm sent : List ℕ) (hn : n < 8) (w : Wrote a n s nm sent) (q : Request) where
+module _ (M S : ℕ) (z : Shape M S) where
+  module _ (x : Machine) (a : Ledger) (g : Fine M S x a) (n s : ℕ) (nm sent : List ℕ) (hn : n < 8) (w : Wrote a n s nm sent) (q : Request) where
     abbrev f : File
     f = file a s
 
-    wr : Writing S (slotsOf ds) (x .tab) n (file a s) s (w .left)
-    wr = subst (λ (b : Block). Keeps S (slotsOf ds) (x .tab) n (a .slots) b) (w .writer) (g .agrees .keeps n hn)
+    wr : Writing S (slotsOf (a .dir)) (x .tab) n (file a s) s (w .left)
+    wr = subst (λ (b : Block). Keeps S (slotsOf (a .dir)) (x .tab) n (a .slots) b) (w .writer) (g .agrees .keeps n hn)
 
     set-b : (c : Block) → getD (set (a .blocks) n c) n closed ≡ c
     set-b c = getD-set-same (a .blocks) n c closed (omega (arith, g .agrees .nb))
@@ -251,12 +250,12 @@ module _ (M S : ℕ) (z : Shape M S) (ds : List ℕ) (d : Listing S ds) where
 
   -- ---- what another block does leaves an open file
 
-  module _ (x : Machine) (a : Ledger) (g : Fine M S ds x a) (m : ℕ) (hm : m < 8) (q : Request) (a′ : Ledger) (c : Change a m q a′) where
+  module _ (x : Machine) (a : Ledger) (g : Fine M S x a) (m : ℕ) (hm : m < 8) (q : Request) (a′ : Ledger) (c : Change a m q a′) where
     pub open-kept : (n s : ℕ) → n < 8 → n ≢ m → opens (block a n) ≡ suc s → (block a′ n ≡ block a n) × (file a′ s ≡ file a s)
     open-kept n s hn ne o = (other-block a a′ m q c n ne, go (slot-fate a a′ m q c s))
       where
         alive : (live (nameOf (a .slots) s) 0 ≡ true) × (s < length (a .slots))
-        alive = open-live M S ds (x .img) (x .tab) a (g .agrees) n s hn o
+        alive = open-live M S (x .img) (x .tab) a (g .agrees) n s hn o
 
         shut : busy true s (a .blocks) 8 ≡ false → ⊥
         shut h = not-open s (block a n) (not-busy true s (a .blocks) 8 n h hn) o
@@ -264,18 +263,18 @@ module _ (M S : ℕ) (z : Shape M S) (ds : List ℕ) (d : Listing S ds) where
         go : Slot a a′ m q s → file a′ s ≡ file a s
         go (kept e k) = e
         go (own ub e) = absurd (g .agrees .alone m n (λ y. ne (sym y)) hm hn (omega (arith, ap writes e)) (ap writes e ∙ sym o))
-        go (fresh e) = absurd (live-not-room (a .slots) s (alive .0) e)
+        go (fresh e) = absurd-bool (alive .0) e
         go (lost e v by k) = absurd (shut by)
         go (moved e v by k) = absurd (shut by)
 
   -- ---- over the log
 
   -- an accepted call of another block leaves an open file
-  pub other-kept : (x : Machine) (a : Ledger) (g : Fine M S ds x a) (m b n s : ℕ) → m < 8 → n < 8 → m ≢ n → answers flex x (asking m b) ≡ 0
+  pub other-kept : (x : Machine) (a : Ledger) (g : Fine M S x a) (m b n s : ℕ) → m < 8 → n < 8 → m ≢ n → answers flex x (asking m b) ≡ 0
       → opens (block a n) ≡ suc s
       → (block (then M S a (entry flex x (asking m b))) n ≡ block a n) × (file (then M S a (entry flex x (asking m b))) s ≡ file a s)
   other-kept x a g m b n s hm hn ne q o =
-      let st = asked M S z ds d x a g m b hm in
+      let st = asked M S z x a g m b hm in
       let l = likewise-asked M S x a m b st in
       let k = by (called M S a m (asks a m b)) (changes M S a m (asks a m b)) (st .sure) (st .ans) in
       (ap (λ (bs : List Block). getD bs n closed) (l .blocks) ∙ k .0, ap (λ (fs : List File). getD fs s noFile) (l .slots) ∙ k .1)
@@ -285,17 +284,17 @@ module _ (M S : ℕ) (z : Shape M S) (ds : List ℕ) (d : Listing S ds) where
       by (denied v) c su an = absurd (su (sym an ∙ q))
       by (granted v a′ ps) c su an = open-kept x a g m hm (asks a m b) a′ c n s hn (λ y. ne (sym y)) o
 
-  pub other-call : (x : Machine) (a : Ledger) (g : Fine M S ds x a) (m b n s : ℕ) → n < 8 → m ≢ n → opens (block a n) ≡ suc s
+  pub other-call : (x : Machine) (a : Ledger) (g : Fine M S x a) (m b n s : ℕ) → n < 8 → m ≢ n → opens (block a n) ≡ suc s
       → Untouched a (then M S a (entry flex x (asking m b))) n s
   unfolding entry
   other-call x a g m b n s hn ne o = go (ℕ-discrete (answers flex x (asking m b)) 0) (decLt m 8)
     where
       go : Dec (answers flex x (asking m b) ≡ 0) → Dec (m < 8) → Untouched a (then M S a (entry flex x (asking m b))) n s
       go (no q) h = untouched a (then M S a (entry flex x (asking m b))) n s (likewise-refused M S a m b _ _ q)
-      go (yes q) (no h) = absurd (omega (arith, q, beyond M S z ds d x a g m b (omega arith)))
+      go (yes q) (no h) = absurd (omega (arith, q, beyond M S z x a g m b (omega arith)))
       go (yes q) (yes h) = let k = other-kept x a g m b n s h hn ne q o in record { same-block = k .0; same-file = k .1 }
 
-  module _ (x : Machine) (a : Ledger) (g : Fine M S ds x a) (n s : ℕ) (nm sent : List ℕ) (hn : n < 8) (w : Wrote a n s nm sent) where
+  module _ (x : Machine) (a : Ledger) (g : Fine M S x a) (n s : ℕ) (nm sent : List ℕ) (hn : n < 8) (w : Wrote a n s nm sent) where
     abbrev Now : Call → Type 0
     Now c = Wrote (then M S a (entry flex x c)) n s nm (sent ++ sentIn n (sceneOf x a c))
         × (calls n 0 (sceneOf x a c) ≡ true → room a n ≡ true → answers flex x c ≡ 0)
@@ -336,12 +335,12 @@ module _ (M S : ℕ) (z : Shape M S) (ds : List ℕ) (d : Listing S ds) where
     -- its own, a byte
     own-byte : (b : ℕ) → asks a n b .code ≡ 0 → Now (asking n b)
     own-byte b c =
-        let wr : Writing S (slotsOf ds) (x .tab) n (file a s) s (w .left) =
-        subst (λ (y : Block). Keeps S (slotsOf ds) (x .tab) n (a .slots) y) (w .writer) (g .agrees .keeps n hn) in
-        let dr : asks a n b .drive ≡ 0 = ap (λ (y : Request). y .drive) (sym (asks-is M S z ds d x a g n b hn)) ∙ wr .drive in
+        let wr : Writing S (slotsOf (a .dir)) (x .tab) n (file a s) s (w .left) =
+        subst (λ (y : Block). Keeps S (slotsOf (a .dir)) (x .tab) n (a .slots) y) (w .writer) (g .agrees .keeps n hn) in
+        let dr : asks a n b .drive ≡ 0 = ap (λ (y : Request). y .drive) (sym (asks-is M S z x a g n b hn)) ∙ wr .drive in
         let φ : called M S a n (asks a n b) ≡ transferred M S a n (asks a n b) (writing s (w .left)) =
         called-zero M S a n (asks a n b) (writing s (w .left)) c dr (w .writer) fits-two in
-        let st = asked M S z ds d x a g n b hn in
+        let st = asked M S z x a g n b hn in
         by (called M S a n (asks a n b)) (st .ans) (likewise-asked M S x a n b st) (subst (Wrought a n s nm sent b) (sym φ) (own-write x a g n s nm sent hn w (asks a n b)))
       where
         sent-here : answers flex x (asking n b) ≡ 0 → b ∷ [] ≡ sentIn n (sceneOf x a (asking n b))
@@ -375,7 +374,7 @@ module _ (M S : ℕ) (z : Shape M S) (ds : List ℕ) (d : Listing S ds) where
         go (no e) = other m b e
 
   -- WRITING: whatever else is called, the file has what was sent to it, and while there is room every byte is accepted
-  pub written : (cs : List Call) (x : Machine) (a : Ledger) → Fine M S ds x a → (n s : ℕ) (nm sent : List ℕ) → n < 8 → Wrote a n s nm sent
+  pub written : (cs : List Call) (x : Machine) (a : Ledger) → Fine M S x a → (n s : ℕ) (nm sent : List ℕ) → n < 8 → Wrote a n s nm sent
       → Only n (0 ∷ []) (scenes M S a (log flex x cs))
       → Wrote (history M S a (log flex x cs)) n s nm (sent ++ sentBy n (scenes M S a (log flex x cs))) × Accepts n (scenes M S a (log flex x cs))
   unfolding log history scenes entry sentBy
@@ -385,7 +384,7 @@ module _ (M S : ℕ) (z : Shape M S) (ds : List ℕ) (d : Listing S ds) where
       let a′ = then M S a (entry flex x c) in
       let ss = scenes M S a′ (log flex (next flex x c) cs) in
       let w1 = wrote-one x a g n s nm sent hn w c (op .0, tt) in
-      let w2 = written cs (next flex x c) a′ (step M S z ds d x a g c .fine) n s nm (sent ++ sentIn n sc) hn (w1 .0) (op .1) in (
+      let w2 = written cs (next flex x c) a′ (step M S z x a g c .fine) n s nm (sent ++ sentIn n sc) hn (w1 .0) (op .1) in (
         subst (λ (l : List ℕ). Wrote (history M S a′ (log flex (next flex x c) cs)) n s nm l) (append-assoc sent (sentIn n sc) (sentBy n ss)) (w2 .0),
         (w1 .1, w2 .1),
       )

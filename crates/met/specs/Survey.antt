@@ -10,7 +10,7 @@ use lib.Seq.{ext-getD}
 use Rattle.rules.specs.Bytes.{pick, wordAt, part}
 use Rattle.rules.specs.Image.{firstFree, freeCount}
 use Rattle.rules.specs.Directory.{live, directory, slots, slotsOf, startAt, endAt, sizeAt}
-use Rattle.rules.specs.Census.{chainRight, numbersFrom, freeRight, fileRight, filesRight, fileNumbers, fileOwners, filesNumbers, filesOwners, listed, owners, eachOnce}
+use Rattle.rules.specs.Census.{chainRight, numbersFrom, freeRight, fileRight, filesRight, fileNumbers, fileOwners, filesNumbers, filesOwners, listed, directoryOwner, owners, eachOnce}
 use Rattle.laws.specs.Bytes.{length-part}
 use Rattle.laws.specs.Small.{Small}
 use Rattle.laws.specs.Surveys.{Sane}
@@ -20,7 +20,7 @@ use Rattle.laws.specs.Addresses.{Shape}
 use Rattle.chains.specs.Addresses.{Sized}
 use Rattle.chains.specs.Chain.{Chain, pieces, contents}
 use Rattle.chains.specs.Directory.{Listing, directory-is, directory-sound}
-use Rattle.chains.specs.Walk.{chainAt, length-walk, numbers, numbers-append, numbers-walk, AllData, chain-sound, chain-complete, once-sound, once-complete}
+use Rattle.chains.specs.Walk.{chainAt, length-walk, numbers, numbers-append, length-numbers, numbers-walk, dataOf, numbers-data, tally-data, data-behind, AllData, chain-sound, chain-complete, once-sound, once-complete}
 use Rattle.demands.specs.Diskette.{sectorsAt, fileAt, filesAt, ledgerOf, ledgerNumbers, ownersFrom, ledgerOwners}
 use Rattle.demands.specs.Ledger.{File, noFile, Block, closed, Ledger, secsOf}
 use Rattle.met.specs.Relation.{tb, writes, Holds, Keeps, Agrees}
@@ -58,11 +58,14 @@ files-numbers S img [] = refl
 files-numbers S img (o ∷ os) =
     ap₂ (λ (x y : List ℕ). x ++ y) (file-numbers S img o) (files-numbers S img os) ∙ sym (numbers-append S (sectorsAt S img o) (flat secsOf (filesAt S img os)))
 
-pub listed-is : (S : ℕ) (img tab : List ℕ) → listed img S ≡ ledgerNumbers S (ledgerOf S img tab)
+pub listed-is : (M S : ℕ) (img tab : List ℕ) → listed img M S ≡ ledgerNumbers S (ledgerOf M S img tab)
 unfolding listed ledgerOf
-listed-is S img tab =
-    ap₂ (λ (x y : List ℕ). x ++ y) (numbers-walk S img (freeCount img) (firstFree img)) (files-numbers S img (slots img S))
-    ∙ sym (numbers-append S (chainAt S img 541) (flat secsOf (filesAt S img (slots img S))))
+listed-is M S img tab =
+    let ds = dataOf S (directory img M S) in
+    let fs = flat secsOf (filesAt S img (slots img M S)) in
+    ap₂ (λ (x y : List ℕ). x ++ y) (numbers-walk S img (freeCount img) (firstFree img))
+    (ap₂ (λ (x y : List ℕ). x ++ y) (numbers-data S (directory img M S)) (files-numbers S img (slots img M S)) ∙ sym (numbers-append S ds fs))
+    ∙ sym (numbers-append S (chainAt S img 541) (ds ++ fs))
 
 file-owners : (S : ℕ) (img : List ℕ) (o owner : ℕ) → fileOwners img o owner ≡ replicate (length (sectorsAt S img o)) owner
 unfolding fileOwners
@@ -79,10 +82,13 @@ unfolding filesOwners filesAt fileAt
 files-owners S img [] owner = refl
 files-owners S img (o ∷ os) owner = ap₂ (λ (x y : List ℕ). x ++ y) (file-owners S img o owner) (files-owners S img os (owner + 1))
 
-pub owners-is : (S : ℕ) (img tab : List ℕ) → owners img S ≡ ledgerOwners (ledgerOf S img tab)
+pub owners-is : (M S : ℕ) (img tab : List ℕ) → owners img M S ≡ ledgerOwners S (ledgerOf M S img tab)
 unfolding owners ledgerOf
-owners-is S img tab =
-    ap₂ (λ (x y : List ℕ). x ++ y) (ap (λ (x : ℕ). replicate {A = ℕ} x 0) (sym (length-walk S img (wordAt img 545) (wordAt img 541)))) (files-owners S img (slots img S) 1)
+owners-is M S img tab =
+    ap₂ (λ (x y : List ℕ). x ++ y) (ap (λ (x : ℕ). replicate {A = ℕ} x 0) (sym (length-walk S img (wordAt img 545) (wordAt img 541))))
+    (ap₂ (λ (x y : List ℕ). x ++ y)
+    (ap (λ (x : ℕ). replicate {A = ℕ} x directoryOwner) (ap length (numbers-data S (directory img M S)) ∙ length-numbers S (dataOf S (directory img M S))))
+    (files-owners S img (slots img M S) 1))
 
 -- ---- SOUND: an image that the census accepts, every block closed
 
@@ -121,13 +127,10 @@ flat-data M S (f ∷ fs) g x t = go (tally x (f .secs)) refl (flat-data M S fs (
 
 module _ (M S : ℕ) (z : Shape M S) (img : List ℕ) (h : Sized M S img) (small : Small img) (sane : Sane img M S) where
   abbrev ds : List ℕ
-  ds = directory img S
+  ds = directory img M S
 
-  dir : Listing S ds
+  dir : Listing M S ds
   dir = directory-sound M S z img (small .at) (sane .right) .0
-
-  pub start-listing : Listing S (directory img S)
-  start-listing = dir
 
   file-sound : (i : ℕ) → i < length (slotsOf ds) → live img (getD (slotsOf ds) i 0) ≡ true
       → Chain S img (getD (slotsOf ds) i 0 + 13) (chainAt S img (getD (slotsOf ds) i 0 + 13)) × AllData M S (chainAt S img (getD (slotsOf ds) i 0 + 13))
@@ -149,19 +152,29 @@ module _ (M S : ℕ) (z : Shape M S) (img : List ℕ) (h : Sized M S img) (small
       go false e x t = absurd (omega arith)
       go true e x t = file-sound i b e .1 x t
 
-  all-data : AllData M S (chainAt S img 541 ++ flat secsOf (filesAt S img (slotsOf ds)))
+  all-data : AllData M S (chainAt S img 541 ++ (dataOf S ds ++ flat secsOf (filesAt S img (slotsOf ds))))
   unfolding fileAt
-  all-data x t = go (tally x (chainAt S img 541)) refl
+  all-data x t = go (tally x (chainAt S img 541)) refl (tally x (dataOf S ds)) refl
     where
       each : (i : ℕ) → i < length (filesAt S img (slotsOf ds)) → AllData M S (secsOf (getD (filesAt S img (slotsOf ds)) i noFile))
       each i b =
           let c : i < length (slotsOf ds) = omega (arith, length-files S img (slotsOf ds)) in
           subst (λ (f : File). AllData M S (secsOf f)) (sym (files-at S img (slotsOf ds) i c)) (secs-all i c)
 
-      go : (c : ℕ) → tally x (chainAt S img 541) ≡ c → (S ≤ x) × (x < (M + 1) * S)
-      go zero e =
-          flat-data M S (filesAt S img (slotsOf ds)) each x (omega (arith, t, e, tally-append x (chainAt S img 541) (flat secsOf (filesAt S img (slotsOf ds)))))
-      go (suc c) e = free-sound .1 x (omega (arith, e))
+      go : (c : ℕ) → tally x (chainAt S img 541) ≡ c → (b : ℕ) → tally x (dataOf S ds) ≡ b → (S ≤ x) × (x < (M + 1) * S)
+      go zero e zero f =
+          flat-data M S (filesAt S img (slotsOf ds)) each x
+          (omega (
+            arith,
+            t,
+            e,
+            f,
+            tally-append x (chainAt S img 541) (dataOf S ds ++ flat secsOf (filesAt S img (slotsOf ds))),
+            tally-append x (dataOf S ds) (flat secsOf (filesAt S img (slotsOf ds))),
+          ))
+      go zero e (suc b) f =
+          let l = data-behind S ds x (omega (arith, f)) in (l, dir .high x (omega (arith, f, tally-data S ds x l)))
+      go (suc c) e b f = free-sound .1 x (omega (arith, e))
 
   holds-sound : (o : ℕ) → (live img o ≡ true → Chain S img (o + 13) (chainAt S img (o + 13))) → Holds S img o (fileAt S img o)
   unfolding fileAt
@@ -179,20 +192,22 @@ module _ (M S : ℕ) (z : Shape M S) (img : List ℕ) (h : Sized M S img) (small
         body = refl;
       }
 
-  pub start-agrees : (tab : List ℕ) → length tab ≡ 2560 → ((n : ℕ) → n < 8 → tb tab n 2 ≡ 0) → Agrees M S (directory img S) img tab (ledgerOf S img tab)
+  pub start-agrees : (tab : List ℕ) → length tab ≡ 2560 → ((n : ℕ) → n < 8 → tb tab n 2 ≡ 0) → Agrees M S img tab (ledgerOf M S img tab)
   unfolding ledgerOf
   start-agrees tab tl shut =
       record {
         shaped = h;
         tlen = tl;
+        listing = dir;
         dir = directory-sound M S z img (small .at) (sane .right) .1;
+        heads = refl;
         ns = length-files S img (slotsOf ds);
         nb = refl;
         free = free-sound .0;
         holds = λ i b. subst (λ (f : File). Holds S img (getD (slotsOf ds) i 0) f) (sym (files-at S img (slotsOf ds) i b)) (holds-sound (getD (slotsOf ds) i 0) (λ v. file-sound i b v .0));
         keeps = λ n b. subst (λ (x : Block). Keeps S (slotsOf ds) tab n (filesAt S img (slotsOf ds)) x) (sym (closed-at n b)) (shut n b);
         alone = λ n n′ ne hn hn′ w. absurd (omega (arith, ap writes (closed-at n hn)));
-        once = once-sound M S (chainAt S img 541 ++ flat secsOf (filesAt S img (slotsOf ds))) all-data
+        once = once-sound M S (chainAt S img 541 ++ (dataOf S ds ++ flat secsOf (filesAt S img (slotsOf ds)))) all-data
             (subst (λ (l : List ℕ). eachOnce (M * S) l ≡ true) (listed-here) (sane .once));
         spare = refl;
         small = λ p g. small .at p;
@@ -203,8 +218,8 @@ module _ (M S : ℕ) (z : Shape M S) (img : List ℕ) (h : Sized M S img) (small
       closed-at : (n : ℕ) → n < 8 → getD (replicate 8 closed) n closed ≡ closed
       closed-at n b = getD-replicate {A = Block} 8 n closed closed b
 
-      listed-here : listed img S ≡ numbers S (chainAt S img 541 ++ flat secsOf (filesAt S img (slotsOf ds)))
-      listed-here = listed-is S img tab
+      listed-here : listed img M S ≡ numbers S (chainAt S img 541 ++ (dataOf S ds ++ flat secsOf (filesAt S img (slotsOf ds))))
+      listed-here = listed-is M S img tab
 
   -- names
   name-at : (i : ℕ) → i < length (slotsOf ds) → nameOf (filesAt S img (slotsOf ds)) i ≡ part img (getD (slotsOf ds) i 0) 11
@@ -214,7 +229,7 @@ module _ (M S : ℕ) (z : Shape M S) (img : List ℕ) (h : Sized M S img) (small
   live-name : (i : ℕ) → i < length (slotsOf ds) → live (nameOf (filesAt S img (slotsOf ds)) i) 0 ≡ live img (getD (slotsOf ds) i 0)
   live-name i b = ap (λ (x : List ℕ). live x 0) (name-at i b) ∙ sym (live-at img (part img (getD (slotsOf ds) i 0) 11) (getD (slotsOf ds) i 0) refl)
 
-  pub start-tidy : (tab : List ℕ) → Tidy ((ledgerOf S img tab) .slots)
+  pub start-tidy : (tab : List ℕ) → Tidy ((ledgerOf M S img tab) .slots)
   unfolding ledgerOf
   start-tidy tab =
       let long : (i : ℕ) → i < length (filesAt S img (slotsOf ds)) → i < length (slotsOf ds) =
@@ -240,61 +255,69 @@ file-path : (f g : File) → f .at ≡ g .at → f .name ≡ g .name → f .mode
     → f .recs ≡ g .recs → f .body ≡ g .body → f ≡ g
 file-path f g o p m e d q c r = λ i. record { at = o i; name = p i; mode = m i; ends = e i; date = d i; secs = q i; recs = c i; body = r i }
 
-module _ (M S : ℕ) (z : Shape M S) (ds : List ℕ) (d : Listing S ds) (img tab : List ℕ) (a : Ledger) (r : Agrees M S ds img tab a) where
+module _ (M S : ℕ) (z : Shape M S) (img tab : List ℕ) (a : Ledger) (r : Agrees M S img tab a) where
   free-back : (chainAt S img 541 ≡ a .free) × (chainRight img M S (wordAt img 541) (wordAt img (541 + 2)) (wordAt img (541 + 4)) ≡ true)
-  free-back = chain-complete M S z img 541 (a .free) (free-data M S z ds d img tab a r) (free-count M S z ds d img tab a r) (r .free)
+  free-back = chain-complete M S z img 541 (a .free) (free-data M S z img tab a r) (free-count M S z img tab a r) (r .free)
 
-  pub file-back : (s : ℕ) → s < length (slotsOf ds) → live ((getD (a .slots) s noFile) .name) 0 ≡ true
-      → (chainAt S img (getD (slotsOf ds) s 0 + 13) ≡ (getD (a .slots) s noFile) .secs)
-      × (chainRight img M S (wordAt img (getD (slotsOf ds) s 0 + 13)) (wordAt img (getD (slotsOf ds) s 0 + 13 + 2)) (wordAt img (getD (slotsOf ds) s 0 + 13 + 4)) ≡ true)
+  pub file-back : (s : ℕ) → s < length (slotsOf (a .dir)) → live ((getD (a .slots) s noFile) .name) 0 ≡ true
+      → (chainAt S img (getD (slotsOf (a .dir)) s 0 + 13) ≡ (getD (a .slots) s noFile) .secs)
+      × (chainRight img M S (wordAt img (getD (slotsOf (a .dir)) s 0 + 13)) (wordAt img (getD (slotsOf (a .dir)) s 0 + 13 + 2)) (wordAt img (getD (slotsOf (a .dir)) s 0 + 13 + 4)) ≡ true)
   file-back s b v =
-      chain-complete M S z img (getD (slotsOf ds) s 0 + 13) ((getD (a .slots) s noFile) .secs) (secs-data M S z ds d img tab a r s b) (secs-count M S z ds d img tab a r s b) (r .holds s b .chain v)
+      chain-complete M S z img (getD (slotsOf (a .dir)) s 0 + 13) ((getD (a .slots) s noFile) .secs) (secs-data M S z img tab a r s b) (secs-count M S z img tab a r s b) (r .holds s b .chain v)
 
-  live-back : (s : ℕ) → s < length (slotsOf ds) → live img (getD (slotsOf ds) s 0) ≡ live ((getD (a .slots) s noFile) .name) 0
-  live-back s b = live-at img ((getD (a .slots) s noFile) .name) (getD (slotsOf ds) s 0) (r .holds s b .name)
+  live-back : (s : ℕ) → s < length (slotsOf (a .dir)) → live img (getD (slotsOf (a .dir)) s 0) ≡ live ((getD (a .slots) s noFile) .name) 0
+  live-back s b = live-at img ((getD (a .slots) s noFile) .name) (getD (slotsOf (a .dir)) s 0) (r .holds s b .name)
 
-  secs-back : (s : ℕ) → s < length (slotsOf ds) → sectorsAt S img (getD (slotsOf ds) s 0) ≡ (getD (a .slots) s noFile) .secs
+  secs-back : (s : ℕ) → s < length (slotsOf (a .dir)) → sectorsAt S img (getD (slotsOf (a .dir)) s 0) ≡ (getD (a .slots) s noFile) .secs
   secs-back s b = rw (live-back s b) (go (live ((getD (a .slots) s noFile) .name) 0) refl)
     where
       go : (u : Bool) → live ((getD (a .slots) s noFile) .name) 0 ≡ u
-          → pick u (chainAt S img (getD (slotsOf ds) s 0 + 13)) [] ≡ (getD (a .slots) s noFile) .secs
+          → pick u (chainAt S img (getD (slotsOf (a .dir)) s 0 + 13)) [] ≡ (getD (a .slots) s noFile) .secs
       go true e = file-back s b e .0
       go false e = sym (r .holds s b .dead e)
 
   -- the file that stands in a slot
-  pub file-is : (s : ℕ) → s < length (slotsOf ds) → fileAt S img (getD (slotsOf ds) s 0) ≡ getD (a .slots) s noFile
+  pub file-is : (s : ℕ) → s < length (slotsOf (a .dir)) → fileAt S img (getD (slotsOf (a .dir)) s 0) ≡ getD (a .slots) s noFile
   unfolding fileAt
   file-is s b =
       let q = secs-back s b in
       let w = r .holds s b in
-      file-path (fileAt S img (getD (slotsOf ds) s 0)) (getD (a .slots) s noFile) (sym (w .at)) (w .name) (w .mode) (w .ends) (w .date) q
+      file-path (fileAt S img (getD (slotsOf (a .dir)) s 0)) (getD (a .slots) s noFile) (sym (w .at)) (w .name) (w .mode) (w .ends) (w .date) q
       (ap (pieces 2 2 img) q ∙ sym (w .recs)) (ap (contents img) q ∙ sym (w .body))
 
-  pub files-are : filesAt S img (slotsOf ds) ≡ a .slots
+  pub files-are : filesAt S img (slotsOf (a .dir)) ≡ a .slots
   files-are =
-      ext-getD noFile (filesAt S img (slotsOf ds)) (a .slots) (length-files S img (slotsOf ds) ∙ sym (r .ns))
-      (λ i h. let b : i < length (slotsOf ds) = omega (arith, length-files S img (slotsOf ds)) in files-at S img (slotsOf ds) i b ∙ file-is i b)
+      ext-getD noFile (filesAt S img (slotsOf (a .dir))) (a .slots) (length-files S img (slotsOf (a .dir)) ∙ sym (r .ns))
+      (λ i h. let b : i < length (slotsOf (a .dir)) = omega (arith, length-files S img (slotsOf (a .dir))) in files-at S img (slotsOf (a .dir)) i b ∙ file-is i b)
 
   -- the ledger of the image is this one, but for its blocks
-  pub ledger-free : (ledgerOf S img tab) .free ≡ a .free
+  pub ledger-free : (ledgerOf M S img tab) .free ≡ a .free
   unfolding ledgerOf
   ledger-free = free-back .0
 
-  pub ledger-slots : (ledgerOf S img tab) .slots ≡ a .slots
+  pub ledger-slots : (ledgerOf M S img tab) .slots ≡ a .slots
   unfolding ledgerOf
-  ledger-slots = ap (λ (x : List ℕ). filesAt S img (slotsOf x)) (directory-is M S z img ds d (r .dir) .1) ∙ files-are
+  ledger-slots = ap (λ (x : List ℕ). filesAt S img (slotsOf x)) (directory-is M S z img (a .dir) (r .listing) (r .dir) .1) ∙ files-are
+
+  pub ledger-dir : (ledgerOf M S img tab) .dir ≡ a .dir
+  unfolding ledgerOf
+  ledger-dir = directory-is M S z img (a .dir) (r .listing) (r .dir) .1
+
+  pub numbers-back : ledgerNumbers S (ledgerOf M S img tab) ≡ ledgerNumbers S a
+  numbers-back =
+      ap₂ (λ (x y : List ℕ). numbers S (x ++ y)) ledger-free (ap₂ (λ (d : List ℕ) (fs : List File). dataOf S d ++ flat secsOf fs) ledger-dir ledger-slots)
 
   pub sane-back : Tidy (a .slots) → Sane img M S
   unfolding freeRight ledgerOf
   sane-back t =
-      let dr = directory-is M S z img ds d (r .dir) in
+      let dr = directory-is M S z img (a .dir) (r .listing) (r .dir) in
       record {
         right = dr .0;
         no-twins =
-            rw (dr .1) (twins-complete img (slotsOf ds) (λ i j x y u v w. t .apart i j (omega arith) (omega (arith, r .ns)) (omega (arith, r .ns))
+            rw (dr .1) (twins-complete img (slotsOf (a .dir)) (λ i j x y u v w. t .apart i j (omega arith) (omega (arith, r .ns)) (omega (arith, r .ns))
             (sym (live-back i (omega arith)) ∙ u) (sym (live-back j y) ∙ v) (sym (r .holds i (omega arith) .name) ∙ w ∙ r .holds j y .name)));
         free = free-back .1;
-        files = rw (dr .1) (right-files M S img (slotsOf ds) (λ i b v. record-at M S img (getD (slotsOf ds) i 0) ∙ file-back i b (sym (live-back i b) ∙ v) .1));
-        once = rw (listed-is S img tab) (ap (λ (l : List ℕ). eachOnce (M * S) (numbers S l)) (ap₂ (λ (x : List ℕ) (y : List File). x ++ flat secsOf y) ledger-free ledger-slots)
-            ∙ once-complete M S (a .free ++ flat secsOf (a .slots)) (r .once));
+        files = rw (dr .1) (right-files M S img (slotsOf (a .dir)) (λ i b v. record-at M S img (getD (slotsOf (a .dir)) i 0) ∙ file-back i b (sym (live-back i b) ∙ v) .1));
+        once = ap (eachOnce (M * S)) (listed-is M S img tab ∙ numbers-back)
+            ∙ once-complete M S (a .free ++ (dataOf S (a .dir) ++ flat secsOf (a .slots))) (r .once);
       }

@@ -1,33 +1,33 @@
 -- Each function stores only where it may: `Tamed`, of every outcome. On an image of the right shape; `asked` needs no such thing.
-use mathlib.Core.Path.{_≡_, refl, sym, _∙_, subst}
+use mathlib.Core.Path.{_≡_, refl, sym, ap, _∙_, subst}
 use mathlib.Core.Logic.{_≢_}
 use mathlib.Core.Bool.{Bool, true, false}
 use mathlib.Core.List.{List, [], _∷_}
-use Prim.Native.Nat.{ℕ, _+_, _/_, _%_, _≤_, _<_}
+use Prim.Native.Nat.{ℕ, _+_, _-_, _/_, _%_, _≤_, _<_}
 use native.Mathlib.Omega.{arith}
 use lib.ListN.{length, length-append}
 use lib.Dec.{eqb, ltb}
 use borrow.Author.Tests.{eqb-true, eqb-false}
 use Rattle.rules.specs.Bytes.{pick, within, part, one, two, six, zeros, same}
 use Rattle.rules.specs.Stores.{Store, store, Put, put}
-use Rattle.rules.specs.Image.{lastTrack, perTrack, shapeRight, index, isSector, isData, infoSector, firstFree, lastFree, freeCount}
+use Rattle.rules.specs.Image.{lastTrack, perTrack, shapeRight, index, isSector, isData, linkOf, infoSector, firstFree, lastFree, freeCount}
 use Rattle.rules.specs.Names.{legal}
-use Rattle.rules.specs.Directory.{member, find, vacancy, directoryRight, placeOf, slotBehind, firstSlotOf, firstOfDirectory, attributesAt, startAt, endAt, sizeAt}
+use Rattle.rules.specs.Directory.{firstOfDirectory, mostOfDirectory, firstSlotOf, member, placeOf, slotBehind, lastOf, directoryRight, directory, slots, find, vacancy, attributesAt, startAt, endAt, sizeAt}
 use Rattle.rules.specs.Outcome.{Outcome, done}
 use Rattle.rules.specs.Block.{nameField, indexField, newNameField, bufferField, functionIn, activityIn, driveIn, sizeIn, positionIn, indexIn, nameIn, newNameIn, placeIn, inUse}
-use Rattle.rules.specs.Transfer.{nextToRead, loadPuts, load, reading, slotIn, fresh, linked, takeStores, takePuts, takeFor, takeSector, sent, fill, writing, transfer, shut, mark, closeWriting, close}
-use Rattle.rules.specs.Files.{opened, openRead, newEntry, openWrite, rewind, openDirectory, shown, nextSlot, readSector, writeProtected, deleteProtected, readProtected, hangStores, gone, remove, delete, rename}
+use Rattle.rules.specs.Transfer.{nextToRead, loadPuts, load, reading, offFree, slotIn, linked, fresh, newStart, newSize, takeStores, takePuts, takeFor, takeSector, sent, fill, writing, transfer, shut, mark, closeWriting, close}
+use Rattle.rules.specs.Files.{opened, openRead, newEntry, growStores, grow, openWrite, rewind, openDirectory, shown, nextSlot, readSector, writeProtected, deleteProtected, readProtected, hangStores, gone, remove, delete, rename}
 use Rattle.rules.specs.Call.{served, fits, checked, perform, asked}
 use Rattle.laws.specs.Tests.{either, within-is, pick-all, pick-cases}
-use Rattle.laws.specs.Bytes.{length-one, length-two, length-six, length-part, length-fresh}
+use Rattle.laws.specs.Bytes.{length-one, length-two, length-six, length-zeros, length-part, length-fresh}
 use Rattle.laws.specs.Each.{Each, each-append, member-here, member-there}
 use Rattle.laws.specs.Addresses.{Shaped, shape-is, data-is, data-low}
-use Rattle.laws.specs.Slots.{IsSlot, find-is, vacancy-is, placed-is}
-use Rattle.laws.specs.Fair.{onSlot-all, onNone-all}
+use Rattle.laws.specs.Slots.{InDirectory, directory-in, IsSlot, slot-is, OneOf, find-is, vacancy-is, placed-is}
+use Rattle.laws.specs.Fair.{onSlot-all, onNone-all, orElse-all}
 use Rattle.laws.specs.Facts.{second}
-use Rattle.demands.specs.Demands.{names, looks, slotNamed, sectorsNamed, movesFree}
-use Rattle.rules.specs.declared.Lookup.the-variants.{At}
-use Rattle.met.specs.Bounds.{touches, spans, Touched, spans-at, lands, lands-each, Stored, in-record, in-slot, in-sector, Tamed, tame-still, tame-done, tame-then}
+use Rattle.demands.specs.Demands.{names, looks, slotNamed, isMissing, grows, sectorsNamed, movesFree}
+use Rattle.rules.specs.declared.Lookup.the-variants.{At, Missing}
+use Rattle.met.specs.Bounds.{touches, spans, Touched, spans-at, lands, lands-each, Stored, in-record, in-slot, in-link, in-sector, Tamed, tame-still, tame-done, tame-then}
 
 -- of the codes that are served, 13 is the one that is left
 above : (m c : ℕ) → m ≤ c → c ≢ m → m + 1 ≤ c
@@ -71,22 +71,31 @@ module _ (img tab : List ℕ) (f b : ℕ) (z : Shaped img) where
 
   -- ---- stores of the image
 
-  info-lies : (c x y n : ℕ) → movesFree c ≡ true → L c (store infoSector 29 (six x y n))
-  info-lies c x y n m = in-record (six x y n) (omega (arith, z .shape)) m (length-six x y n)
+  info-lies : (c : ℕ) (vs : List ℕ) → movesFree img c ≡ true → length vs ≡ 6 → L c (store infoSector 29 vs)
+  info-lies c vs m l = in-record vs m l
 
-  slot-lies : (c slot at n : ℕ) (vs : List ℕ) → IsSlot S slot → Slot c slot → length vs ≡ n → slot % 256 ≤ at → at + n ≤ slot % 256 + 24
+  off-lies : (c : ℕ) → movesFree img c ≡ true → L c (offFree img S)
+  unfolding offFree
+  off-lies c m =
+      info-lies c _ m
+      (pick-all (λ (l : List ℕ). length l ≡ 6) (eqb (freeCount img) 1) (zeros 6) _ (length-zeros 6) (length-six (linkOf img (index S (firstFree img))) (lastFree img) (freeCount img - 1)))
+
+  one-is : (o : ℕ) → OneOf img M S o → IsSlot M S o
+  one-is o p = slot-is img M S (z .shape .sectors) o (p .one-of)
+
+  slot-lies : (c slot at n : ℕ) (vs : List ℕ) → IsSlot M S slot → Slot c slot → length vs ≡ n → slot % 256 ≤ at → at + n ≤ slot % 256 + 24
       → L c (store (slot / 256) at vs)
-  slot-lies c slot at n vs s e l h k = in-slot slot (slot / 256) at vs e (omega (arith, s .sector-high, s .high)) (omega (arith, s .sector-low)) (omega arith) (omega arith)
+  slot-lies c slot at n vs s e l h k = in-slot slot (slot / 256) at vs e (omega (arith, s .sector-low)) (omega arith) (omega arith)
 
   data-lies : (c a i n : ℕ) (vs : List ℕ) → isData M S a ≡ true → Sector c a → length vs ≡ n → i + n ≤ 256 → L c (store (index S a) i vs)
-  data-lies c a i n vs d m l h = in-sector (index S a) i vs (data-low M S a (data-is M S a d)) m (omega arith)
+  data-lies c a i n vs d m l h = in-sector (index S a) i vs (omega (arith, z .shape .sectors)) (data-low M S a (data-is M S a d)) m (omega arith)
 
   linked-lies : (c : ℕ) (none : Bool) (a v : ℕ) → (none ≡ false → isData M S a ≡ true) → Sector c a → Each (L c) (linked none (index S a) v)
   unfolding linked
   linked-lies c none a v d m =
       pick-cases (Each (L c)) none [] _ (λ e. tt) (λ e. (data-lies c a 0 2 (two v) (d e) m (length-two v) (omega arith), tt))
 
-  mark-lies : (c slot : ℕ) → IsSlot S slot → Slot c slot → Each (L c) (mark slot)
+  mark-lies : (c slot : ℕ) → IsSlot M S slot → Slot c slot → Each (L c) (mark slot)
   unfolding mark
   mark-lies c slot s e = (slot-lies c slot (slot % 256) 1 (one 255) s e (length-one 255) (omega arith) (omega arith), tt)
 
@@ -124,16 +133,16 @@ module _ (img tab : List ℕ) (f b : ℕ) (z : Shaped img) where
 
   -- ---- 0, writing
 
-  take-lies : (slot former new next last left start size : ℕ) → IsSlot S slot → Slot 0 slot → (eqb former 0 ≡ false → isData M S former ≡ true)
-      → isData M S new ≡ true → Sector 0 former → Sector 0 new
-      → Each (L 0) (takeStores S slot former new next last left start size)
+  take-lies : (slot : ℕ) → IsSlot M S slot → Slot 0 slot → (eqb (positionIn tab f) 0 ≡ false → isData M S (positionIn tab f) ≡ true)
+      → isData M S (firstFree img) ≡ true → Each (L 0) (takeStores img tab M S f slot)
   unfolding takeStores
-  take-lies slot former new next last left start size s at d e m n = (
-    info-lies 0 next last left refl,
+  take-lies slot s at d e = (
+    off-lies 0 refl,
     (
-      data-lies 0 new 0 256 (fresh size) e n (length-fresh size) (omega arith),
-      each-append (L 0) (linked (eqb former 0) (index S former) new) _ (linked-lies 0 (eqb former 0) former new d m)
-          (slot-lies 0 slot (slot % 256 + 13) 6 _ s at (length-six start new size) (omega arith) (omega arith), tt),
+      data-lies 0 (firstFree img) 0 256 _ e first-in (length-fresh (newSize img tab M S f slot)) (omega arith),
+      each-append (L 0) (linked (eqb (positionIn tab f) 0) (index S (positionIn tab f)) (firstFree img)) _
+          (linked-lies 0 (eqb (positionIn tab f) 0) (positionIn tab f) (firstFree img) d written-in)
+          (slot-lies 0 slot (slot % 256 + 13) 6 _ s at (length-six (newStart img tab M S f slot) (firstFree img) (newSize img tab M S f slot)) (omega arith) (omega arith), tt),
     ),
   )
 
@@ -144,13 +153,13 @@ module _ (img tab : List ℕ) (f b : ℕ) (z : Shaped img) where
   sector-tame : T 0 2 (takeSector img tab M S f)
   unfolding takeSector takeFor looks
   sector-tame =
-      onSlot-all (T 0 2) (slotIn img tab S f) 5 5 _ tt tt
+      onSlot-all (T 0 2) (slotIn img tab M S f) 5 5 _ tt tt
       (λ slot e. pick-cases (T 0 2) (pick (eqb (positionIn tab f) 0) true (isData M S (positionIn tab f))) _ _
       (λ d. pick-all (T 0 2) (eqb (freeCount img) 0) _ _ tt
       (pick-cases (T 0 2) (isData M S (firstFree img)) _ _
       (λ n. pick-all (T 0 2) (eqb (sizeIn tab f) 65535) _ _ tt
       (tame-done img tab f 0 2 _ _ refl
-      (take-lies slot _ _ _ _ _ _ _ (placed-is img S _ _ slot e .0 .slot) e (second _ _ d) n written-in first-in)
+      (take-lies slot (one-is slot (placed-is img M S _ slot e .0)) e (second _ _ d) n)
       (λ s. take-touched _ _ _)))
       (λ n. tt)))
       (λ d. tt))
@@ -190,7 +199,7 @@ module _ (img tab : List ℕ) (f b : ℕ) (z : Shaped img) where
   unfolding closeWriting looks
   close-writing-tame =
       pick-all (T 4 2) (eqb (positionIn tab f) 0) _ _
-      (onSlot-all (T 4 2) (slotIn img tab S f) 5 5 _ tt tt (λ slot e. stored-shut (mark slot) (mark-lies 4 slot (placed-is img S _ _ slot e .0 .slot) e)))
+      (onSlot-all (T 4 2) (slotIn img tab M S f) 5 5 _ tt tt (λ slot e. stored-shut (mark slot) (mark-lies 4 slot (one-is slot (placed-is img M S _ slot e .0)) e)))
       (pick-all (T 4 2) (eqb (indexIn tab f) 0) _ _ (tame-still img tab f 4 2 shut (shut-lands 2))
       (pick-cases (T 4 2) (isData M S (positionIn tab f)) _ _ (λ d. stored-shut _ (buffer-lies 4 closed-in _ d (length-part tab _ 252))) (λ d. tt)))
     where
@@ -199,12 +208,12 @@ module _ (img tab : List ℕ) (f b : ℕ) (z : Shaped img) where
 
   -- ---- what is hung on the free chain
 
-  hang-lies : (slot count first start end size : ℕ) → IsSlot S slot → Slot 12 slot → (eqb count 0 ≡ false → isData M S (lastFree img) ≡ true)
+  hang-lies : (slot count first start end size : ℕ) → IsSlot M S slot → Slot 12 slot → (eqb count 0 ≡ false → isData M S (lastFree img) ≡ true)
       → Each (L 12) (hangStores S slot count first (lastFree img) start end size)
   unfolding hangStores
   hang-lies slot count first start end size s e d =
       each-append (L 12) (linked (eqb count 0) (index S (lastFree img)) start) _ (linked-lies 12 (eqb count 0) (lastFree img) start d last-in)
-      (info-lies 12 _ _ _ refl, mark-lies 12 slot s e)
+      (info-lies 12 _ refl (length-six _ _ _), mark-lies 12 slot s e)
 
   -- ---- the functions, by the code that they have in `perform`
 
@@ -227,28 +236,56 @@ module _ (img tab : List ℕ) (f b : ℕ) (z : Shaped img) where
       (λ e. tame-still img tab f 4 (activityIn tab f) shut (shut-lands (activityIn tab f)))
 
   module _ (act : ℕ) where
-    open-read-tame : T 1 act (openRead img tab S f)
-    unfolding openRead opened placeOf lands spans touches names within member part zeros one
+    open-read-tame : T 1 act (openRead img tab M S f)
+    unfolding openRead opened placeOf lands spans touches names within member part zeros one two
     open-read-tame =
         pick-all (T 1 act) (legal tab (f + nameField)) _ _
-        (onSlot-all (T 1 act) (find img S (nameIn tab f)) 5 4 _ tt tt
+        (onSlot-all (T 1 act) (find img M S (nameIn tab f)) 5 4 _ tt tt
         (λ slot e. pick-all (T 1 act) (readProtected (attributesAt img slot)) _ _ tt
-        (pick-all (T 1 act) (inUse false tab (placeOf slot)) _ _ tt (tame-still img tab f 1 act _ refl))))
+        (pick-all (T 1 act) (inUse false tab (placeOf S slot)) _ _ tt (tame-still img tab f 1 act _ refl))))
         tt
 
-    new-lands : (slot : ℕ) → lands 2 act (opened 2 slot (newEntry tab f)) ≡ true
-    unfolding opened placeOf newEntry lands spans touches names within member part zeros one
+    new-lands : (slot : ℕ) → lands 2 act (opened S 2 slot (newEntry tab f)) ≡ true
+    unfolding opened placeOf newEntry lands spans touches names within member part zeros one two
     new-lands slot = refl
 
-    open-write-tame : T 2 act (openWrite img tab S f)
+    grow-lies : vacancy img M S ≡ Missing → isData M S (firstFree img) ≡ true → Each (L 2) (growStores img tab M S f)
+    unfolding growStores
+    grow-lies e d =
+        let g : grows img 2 ≡ true = ap isMissing e in
+        let m : movesFree img 2 ≡ true = g in
+        let k : Sector 2 (firstFree img) = rw g (member-here (index S (firstFree img)) []) in
+        let l = last-low (directory img M S) 4 (omega arith) (directory-in img M S (z .shape .sectors)) in (
+          off-lies 2 m,
+          (
+            data-lies 2 (firstFree img) 0 256 (zeros 256) d k (length-zeros 256) (omega arith),
+            (in-link (two (firstFree img)) g l (length-two (firstFree img)), (data-lies 2 (firstFree img) 16 24 (newEntry tab f) d k entry-long (omega arith), tt)),
+          ),
+        )
+      where
+        last-low : (ks : List ℕ) (x : ℕ) → 4 ≤ x → Each (InDirectory M S) ks → 4 ≤ lastOf ks x
+        last-low [] x h e = h
+        last-low (j ∷ ks) x h e = last-low ks j (e .0 .0) (e .1)
+
+    grow-tame : vacancy img M S ≡ Missing → T 2 act (grow img tab M S f)
+    unfolding grow looks member
+    grow-tame e =
+        pick-all (T 2 act) (eqb (freeCount img) 0) _ _ tt
+        (pick-cases (T 2 act) (isData M S (firstFree img)) _ _
+        (λ d. pick-all (T 2 act) (ltb (length (directory img M S)) (mostOfDirectory M S)) _ _
+        (tame-done img tab f 2 act _ _ refl (grow-lies e d) (λ s. lands-each 2 act (opened S 2 _ (newEntry tab f)) (new-lands _)))
+        tt)
+        (λ d. tt))
+
+    open-write-tame : T 2 act (openWrite img tab M S f)
     unfolding openWrite looks member
     open-write-tame =
         pick-all (T 2 act) (legal tab (f + nameField)) _ _
-        (onNone-all (T 2 act) (find img S (nameIn tab f)) 5 3 _ tt tt
-        (onSlot-all (T 2 act) (vacancy img S) 5 6 _ tt tt
+        (onNone-all (T 2 act) (find img M S (nameIn tab f)) 5 3 _ tt tt
+        (orElse-all (T 2 act) (vacancy img M S) 5 _ _ tt grow-tame
         (λ slot e. tame-done img tab f 2 act _ _ refl
-        (slot-lies 2 slot (slot % 256) 24 (newEntry tab f) (vacancy-is img S slot e .0 .slot) e entry-long (omega arith) (omega arith), tt)
-        (λ s. lands-each 2 act (opened 2 slot (newEntry tab f)) (new-lands slot)))))
+        (slot-lies 2 slot (slot % 256) 24 (newEntry tab f) (one-is slot (vacancy-is img M S slot e .0)) e entry-long (omega arith) (omega arith), tt)
+        (λ s. lands-each 2 act (opened S 2 slot (newEntry tab f)) (new-lands slot)))))
         tt
 
     rewind-tame : T 5 act rewind
@@ -259,17 +296,17 @@ module _ (img tab : List ℕ) (f b : ℕ) (z : Shaped img) where
     unfolding openDirectory lands spans touches names within member one zeros
     open-directory-tame = tame-still img tab f 6 act _ refl
 
-    shown-tame : (slot : ℕ) → T 7 act (shown img slot)
-    unfolding shown placeOf lands spans touches names within member part
+    shown-tame : (slot : ℕ) → T 7 act (shown img S slot)
+    unfolding shown placeOf lands spans touches names within member part one two
     shown-tame slot = tame-still img tab f 7 act _ refl
 
-    next-slot-tame : T 7 act (nextSlot img tab S f)
+    next-slot-tame : T 7 act (nextSlot img tab M S f)
     unfolding nextSlot
     next-slot-tame =
         pick-all (T 7 act) (same (placeIn tab f) (zeros 3)) _ _
-        (pick-all (T 7 act) (directoryRight img S) _ _ (shown-tame (firstSlotOf firstOfDirectory)) tt)
-        (onSlot-all (T 7 act) (slotIn img tab S f) 5 5 _ tt tt
-        (λ slot e. onSlot-all (T 7 act) (slotBehind img S slot) 5 8 _ tt tt (λ next d. shown-tame next)))
+        (pick-all (T 7 act) (directoryRight img M S) _ _ (shown-tame (firstSlotOf firstOfDirectory)) tt)
+        (onSlot-all (T 7 act) (slotIn img tab M S f) 5 5 _ tt tt
+        (λ slot e. onSlot-all (T 7 act) (slotBehind slot (slots img M S)) 5 8 _ tt tt (λ next d. shown-tame next)))
 
     read-sector-tame : T 9 act (readSector img tab M S f)
     unfolding readSector lands spans touches names within part
@@ -283,7 +320,7 @@ module _ (img tab : List ℕ) (f b : ℕ) (z : Shaped img) where
     unfolding looks member
     removed-tame ss slot l = tame-done img tab f 12 act ss (gone img slot) refl l (λ s. lands-each 12 act (gone img slot) (gone-lands slot))
 
-    remove-tame : (slot : ℕ) → IsSlot S slot → Slot 12 slot → T 12 act (remove img M S slot)
+    remove-tame : (slot : ℕ) → IsSlot M S slot → Slot 12 slot → T 12 act (remove img M S slot)
     unfolding remove
     remove-tame slot s e =
         pick-all (T 12 act) (eqb (sizeAt img slot) 0) _ _ (removed-tame _ slot (mark-lies 12 slot s e))
@@ -300,28 +337,28 @@ module _ (img tab : List ℕ) (f b : ℕ) (z : Shaped img) where
     unfolding delete
     delete-tame =
         pick-all (T 12 act) (legal tab (f + nameField)) _ _
-        (onSlot-all (T 12 act) (find img S (nameIn tab f)) 5 4 _ tt tt
-        (λ slot e. pick-all (T 12 act) (inUse true tab (placeOf slot)) _ _ tt
+        (onSlot-all (T 12 act) (find img M S (nameIn tab f)) 5 4 _ tt tt
+        (λ slot e. pick-all (T 12 act) (inUse true tab (placeOf S slot)) _ _ tt
         (pick-all (T 12 act) (deleteProtected (attributesAt img slot)) _ _ tt
         (pick-all (T 12 act) (writeProtected (attributesAt img slot)) _ _ tt
-        (remove-tame slot (find-is img S _ slot e .0 .slot) e)))))
+        (remove-tame slot (one-is slot (find-is img M S _ slot e .0)) e)))))
         tt
 
     renamed-lands : lands 13 act (put nameField (newNameIn tab f) ∷ []) ≡ true
     unfolding lands spans touches names within part
     renamed-lands = refl
 
-    rename-tame : T 13 act (rename img tab S f)
+    rename-tame : T 13 act (rename img tab M S f)
     unfolding rename looks member
     rename-tame =
         pick-all (T 13 act) (legal tab (f + nameField)) _ _
         (pick-all (T 13 act) (legal tab (f + newNameField)) _ _
-        (onSlot-all (T 13 act) (find img S (nameIn tab f)) 5 4 _ tt tt
-        (λ slot e. pick-all (T 13 act) (inUse true tab (placeOf slot)) _ _ tt
+        (onSlot-all (T 13 act) (find img M S (nameIn tab f)) 5 4 _ tt tt
+        (λ slot e. pick-all (T 13 act) (inUse true tab (placeOf S slot)) _ _ tt
         (pick-all (T 13 act) (writeProtected (attributesAt img slot)) _ _ tt
-        (onNone-all (T 13 act) (find img S (newNameIn tab f)) 5 3 _ tt tt
+        (onNone-all (T 13 act) (find img M S (newNameIn tab f)) 5 3 _ tt tt
         (tame-done img tab f 13 act _ _ refl
-        (slot-lies 13 slot (slot % 256) 11 _ (find-is img S _ slot e .0 .slot) e (length-part tab _ 11) (omega arith) (omega arith), tt)
+        (slot-lies 13 slot (slot % 256) 11 _ (one-is slot (find-is img M S _ slot e .0)) e (length-part tab _ 11) (omega arith) (omega arith), tt)
         (λ s. lands-each 13 act (put nameField (newNameIn tab f) ∷ []) renamed-lands))))))
         tt)
         tt
@@ -353,7 +390,7 @@ module _ (img tab : List ℕ) (f b : ℕ) (z : Shaped img) where
       (λ n6. on-code 7 _ _ (λ k. next-slot-tame act) h
       (λ n7. on-code 9 _ _ (λ k. read-sector-tame act) h
       (λ n9. on-code 12 _ _ (λ k. delete-tame act) h
-      (λ n12. subst (λ (c : ℕ). T c act (rename img tab S f)) (sym (last-code code v n0 n1 n2 n4 n5 n6 n7 n9 n12)) (rename-tame act))))))))))
+      (λ n12. subst (λ (c : ℕ). T c act (rename img tab M S f)) (sym (last-code code v n0 n1 n2 n4 n5 n6 n7 n9 n12)) (rename-tame act))))))))))
 
 -- what a call may come to: any image, any table
 pub asked-tame : (img tab : List ℕ) (f b : ℕ) → Tamed img tab f (functionIn tab f) (activityIn tab f) (asked img tab f b)

@@ -11,61 +11,72 @@ use lib.Dec.{eqb}
 use borrow.Author.Tests.{eq-eqb, ne-eqb}
 use Rattle.rules.specs.Bytes.{pick, part}
 use Rattle.rules.specs.Image.{lastTrack, perTrack}
-use Rattle.rules.specs.Directory.{live, directory, slots, slotsOf, member}
-use Rattle.rules.specs.Census.{survey, census, listed, owners, tally as count}
+use Rattle.rules.specs.Directory.{live, slotsOf, member, directory}
+use Rattle.rules.specs.Census.{survey, census, listed, directoryOwner, owners, tally as count}
 use Rattle.laws.specs.Bytes.{part-is}
 use Rattle.laws.specs.Surveys.{Sane, census-accepts}
 use Rattle.chains.specs.Tally.{flat}
 use Rattle.chains.specs.Once.{Once, once-length}
 use Rattle.laws.specs.Addresses.{Shape}
 use Rattle.chains.specs.Chain.{empty}
-use Rattle.chains.specs.Directory.{Listing, directory-is}
-use Rattle.chains.specs.Walk.{numbers, length-numbers, tally-is, each-sound, once-complete}
+use Rattle.chains.specs.Directory.{directory-is, slots-append}
+use Rattle.chains.specs.Walk.{length-numbers, dataOf, tally-is, each-sound, once-complete}
 use Rattle.demands.specs.Ledger.{Call, asking, File, noFile, Block, closed, listing, reading, writing, Ledger, asks, Fate, reply, gives, holdsOpen, activity, block, file, called, secsOf}
 use Rattle.met.specs.Relation.{writes, Keeps, Agrees}
 use Rattle.met.specs.Searches.{live-at, uses-is}
 use Rattle.demands.specs.Diskette.{ledgerOf, ledgerNumbers, ledgerOwners, fileAt, filesAt, ownersFrom}
-use Rattle.met.specs.Survey.{files-at, files-are, listed-is, owners-is, ledger-free, ledger-slots, sane-back, length-files}
+use Rattle.met.specs.Survey.{files-at, files-are, listed-is, owners-is, ledger-free, ledger-dir, ledger-slots, numbers-back, sane-back, length-files}
 use Rattle.demands.specs.Service.{flex, Machine, run, log, answers, gave}
 use Rattle.demands.specs.History.{scenes, Told, unfinished, pending, shownFrom, shown, buffered, standing, filesOn, concat, had, ahead}
-use Rattle.demands.specs.Demands.{Start, begun, told, Asks, Sound, Demand3}
-use Rattle.met.specs.Runs.{Fine, asked, always, start-shape, start-list, start-fine}
+use Rattle.demands.specs.Demands.{Start, begun, told, Asks, placesOf, Begins, Sound, Demand3}
+use Rattle.met.specs.Runs.{Fine, asked, always, start-shape, start-fine}
 use Rattle.met.specs.Sent.{called-zero, fits-one}
 use Rattle.met.specs.Got.{Fetched, byte, over, fetched}
+use Rattle.met.specs.Changes.{Onward}
 use Rattle.met.specs.Rests.{Rests, rests-same}
 use Rattle.met.specs.Picture.{entry-is, image-is}
 use Rattle.met.specs.Forms.{table-is}
-use Rattle.met.specs.Stays.{run-more, history-more, history-base, free-stays, shows, fetches, stays, spared-entry, spared-chain, spared-sectors}
+use Rattle.met.specs.Stays.{run-more, history-more, then-onward, history-onward, slot-stood, free-stays, shows, fetches, stays, spared-entry, spared-chain, spared-sectors}
 use Rattle.chains.specs.Addresses.{absurd-bool}
 
 first-left : (p : ℕ) (c : List ℕ) → getD (drop p c) 0 0 ≡ getD c p 0
 first-left p c = getD-drop p c 0 0 ∙ ap (λ (i : ℕ). getD c i 0) (omega arith)
 
+begins : (us ws vs : List ℕ) → vs ≡ us ++ ws → Begins us vs
+begins us ws vs e = e ∙ ap (λ (l : List ℕ). us ++ l) (sym (ap (drop (length us)) e ∙ drop-append us ws))
+  where
+    drop-append : (us ws : List ℕ) → drop (length us) (us ++ ws) ≡ ws
+    drop-append [] ws = refl
+    drop-append (u ∷ us) ws = drop-append us ws
+
 -- ---- of a machine that agrees with a ledger
 
-module _ (M S : ℕ) (z : Shape M S) (ds : List ℕ) (d : Listing S ds) (y : Machine) (a : Ledger) (f : Fine M S ds y a) where
-  r : Agrees M S ds (y .img) (y .tab) a
+module _ (M S : ℕ) (z : Shape M S) (y : Machine) (a : Ledger) (f : Fine M S y a) where
+  r : Agrees M S (y .img) (y .tab) a
   r = f .agrees
 
-  lists : (listed (y .img) S ≡ ledgerNumbers S a) × (owners (y .img) S ≡ ledgerOwners a)
+  lists : (listed (y .img) M S ≡ ledgerNumbers S a) × (owners (y .img) M S ≡ ledgerOwners S a)
   lists =
-      let p = ledger-free M S z ds d (y .img) (y .tab) a r in
-      let q = ledger-slots M S z ds d (y .img) (y .tab) a r in (
-        listed-is S (y .img) (y .tab) ∙ ap₂ (λ (u : List ℕ) (v : List File). numbers S (u ++ flat secsOf v)) p q,
-        owners-is S (y .img) (y .tab) ∙ ap₂ (λ (u : List ℕ) (v : List File). replicate {A = ℕ} (length u) 0 ++ ownersFrom 1 v) p q,
+      let p = ledger-free M S z (y .img) (y .tab) a r in
+      let d = ledger-dir M S z (y .img) (y .tab) a r in
+      let q = ledger-slots M S z (y .img) (y .tab) a r in (
+        listed-is M S (y .img) (y .tab) ∙ numbers-back M S z (y .img) (y .tab) a r,
+        owners-is M S (y .img) (y .tab)
+            ∙ ap₂ (λ (u v : List ℕ). u ++ v) (ap (λ (u : List ℕ). replicate {A = ℕ} (length u) 0) p)
+            (ap₂ (λ (u : List ℕ) (v : List File). replicate {A = ℕ} (length (dataOf S u)) directoryOwner ++ ownersFrom 1 v) d q),
       )
 
   -- the census accepts, and lists what the ledger has
-  pub census-is : (xs ys : List ℕ) → length xs ≡ M * S → length ys ≡ M * S → census (y .img) xs ys ≡ survey 0 (ledgerNumbers S a) (ledgerOwners a)
+  pub census-is : (xs ys : List ℕ) → length xs ≡ M * S → length ys ≡ M * S → census (y .img) xs ys ≡ survey 0 (ledgerNumbers S a) (ledgerOwners S a)
   census-is xs ys h k =
       let m = r .shaped .last in
       let s = r .shaped .per in
       let n : lastTrack (y .img) * perTrack (y .img) ≡ M * S = ap₂ (λ (u v : ℕ). u * v) m s in
       census-accepts (y .img) xs ys
       (record { shape = shape-here m s; long = r .shaped .size ∙ size-here m s })
-      (sane-here m s (sane-back M S z ds d (y .img) (y .tab) a r (f .tidy)))
+      (sane-here m s (sane-back M S z (y .img) (y .tab) a r (f .tidy)))
       (h ∙ sym n) (k ∙ sym n)
-      ∙ ap (λ (v : ℕ). survey 0 (listed (y .img) v) (owners (y .img) v)) s
+      ∙ ap₂ (λ (u v : ℕ). survey 0 (listed (y .img) u v) (owners (y .img) u v)) m s
       ∙ ap₂ (λ (u v : List ℕ). survey 0 u v) (lists .0) (lists .1)
     where
       shape-here : lastTrack (y .img) ≡ M → perTrack (y .img) ≡ S → Shape (lastTrack (y .img)) (perTrack (y .img))
@@ -77,19 +88,22 @@ module _ (M S : ℕ) (z : Shape M S) (ds : List ℕ) (d : Listing S ds) (y : Mac
       sane-here : lastTrack (y .img) ≡ M → perTrack (y .img) ≡ S → Sane (y .img) M S → Sane (y .img) (lastTrack (y .img)) (perTrack (y .img))
       sane-here m s w = rw (m, s) w
 
+  -- the free ones, the directory's, the files'
+  abbrev sectors : Ledger → List ℕ
+  sectors b = b .free ++ (dataOf S (b .dir) ++ flat secsOf (b .slots))
+
   pub once-each : (k : ℕ) → k < M * S → count k (ledgerNumbers S a) ≡ 1
   once-each k h =
-      tally-is k (ledgerNumbers S a) ∙ each-sound (M * S) (ledgerNumbers S a) (once-complete M S (a .free ++ flat secsOf (a .slots)) (r .once)) k h
+      tally-is k (ledgerNumbers S a) ∙ each-sound (M * S) (ledgerNumbers S a) (once-complete M S (sectors a) (r .once)) k h
 
   pub no-others : length (ledgerNumbers S a) ≡ M * S
   no-others =
-      length-numbers S (a .free ++ flat secsOf (a .slots))
-      ∙ once-length S (M * S) (a .free ++ flat secsOf (a .slots)) (subst (λ (v : ℕ). Once S v (a .free ++ flat secsOf (a .slots))) (omega arith) (r .once))
+      length-numbers S (sectors a) ∙ once-length S (M * S) (sectors a) (subst (λ (v : ℕ). Once S v (sectors a)) (omega arith) (r .once))
 
   -- ---- files by name and bytes
 
   -- what a block that writes has in its buffer is what the ledger says is unfinished
-  held : (n s : ℕ) → s < length (slotsOf ds) → (b : Block) → Keeps S (slotsOf ds) (y .tab) n (a .slots) b → holdsOpen false s b ≡ true
+  held : (n s : ℕ) → s < length (slotsOf (a .dir)) → (b : Block) → Keeps S (slotsOf (a .dir)) (y .tab) n (a .slots) b → holdsOpen false s b ≡ true
       → pick (eqb (getD (y .tab) (320 * n + 34) 0) 0) [] (part (y .tab) (320 * n + 68) (getD (y .tab) (320 * n + 34) 0 - 4)) ≡ unfinished b
   held n s hs closed k h = absurd (absurd-bool h refl)
   held n s hs (listing p) k h = absurd (absurd-bool h refl)
@@ -105,12 +119,12 @@ module _ (M S : ℕ) (z : Shape M S) (ds : List ℕ) (d : Listing S ds) (y : Mac
           (part-is (y .tab) (320 * n + 68) (getD (y .tab) (320 * n + 34) 0 - 4) ub (omega (arith, b))
           (λ i c. ap (λ (p : ℕ). getD (y .tab) p 0) (omega arith) ∙ k .buffer (omega arith) i (omega (arith, c, b, k .short))))
 
-  buffered-is : (s : ℕ) → s < length (slotsOf ds) → (n : ℕ) → n ≤ 8 → buffered (y .tab) (getD (slotsOf ds) s 0) n ≡ pending (a .blocks) s n
+  buffered-is : (s : ℕ) → s < length (slotsOf (a .dir)) → (n : ℕ) → n ≤ 8 → buffered S (y .tab) (getD (slotsOf (a .dir)) s 0) n ≡ pending (a .blocks) s n
   unfolding buffered pending
   buffered-is s hs zero h = refl
   buffered-is s hs (suc n) h =
       let b = getD (a .blocks) n closed in
-      rw (uses-is M S z ds d (y .img) (y .tab) a r false s hs n b (r .keeps n (omega arith)), buffered-is s hs n (omega arith))
+      rw (uses-is M S z (y .img) (y .tab) a r false s hs n b (r .keeps n (omega arith)), buffered-is s hs n (omega arith))
       (go (holdsOpen false s (getD (a .blocks) n closed)) refl)
     where
       go : (u : Bool) → holdsOpen false s (getD (a .blocks) n closed) ≡ u
@@ -119,21 +133,21 @@ module _ (M S : ℕ) (z : Shape M S) (ds : List ℕ) (d : Listing S ds) (y : Mac
       go true e = held n s hs (getD (a .blocks) n closed) (r .keeps n (omega arith)) e
       go false e = refl
 
-  shown-list : (fs : List File) (k : ℕ) → ((i : ℕ) → i < length fs → buffered (y .tab) (getD fs i noFile .at) 8 ≡ pending (a .blocks) (k + i) 8)
-      → standing (y .tab) fs ≡ shownFrom (a .blocks) k fs
+  shown-list : (fs : List File) (k : ℕ) → ((i : ℕ) → i < length fs → buffered S (y .tab) (getD fs i noFile .at) 8 ≡ pending (a .blocks) (k + i) 8)
+      → standing S (y .tab) fs ≡ shownFrom (a .blocks) k fs
   unfolding standing shownFrom
   shown-list [] k q = refl
   shown-list (g ∷ fs) k q =
-      let bf : buffered (y .tab) (g .at) 8 ≡ pending (a .blocks) k 8 = q 0 (omega arith) ∙ ap (λ (x : ℕ). pending (a .blocks) x 8) (omega arith) in
+      let bf : buffered S (y .tab) (g .at) 8 ≡ pending (a .blocks) k 8 = q 0 (omega arith) ∙ ap (λ (x : ℕ). pending (a .blocks) x 8) (omega arith) in
       let ih = shown-list fs (k + 1) (λ i b. q (suc i) (omega arith) ∙ ap (λ (x : ℕ). pending (a .blocks) x 8) (omega arith)) in
       rw (bf, ih) refl
 
-  pub files-shown : filesOn S (y .img) (y .tab) ≡ shown a
+  pub files-shown : filesOn M S (y .img) (y .tab) ≡ shown a
   files-shown =
-      ap (standing (y .tab)) (ap (λ (x : List ℕ). filesAt S (y .img) (slotsOf x)) (directory-is M S z (y .img) ds d (r .dir) .1) ∙ files-are M S z ds d (y .img) (y .tab) a r)
+      ap (standing S (y .tab)) (ap (λ (x : List ℕ). filesAt S (y .img) (slotsOf x)) (directory-is M S z (y .img) (a .dir) (r .listing) (r .dir) .1) ∙ files-are M S z (y .img) (y .tab) a r)
       ∙ shown-list (a .slots) 0 (λ i h.
-      let b : i < length (slotsOf ds) = omega (arith, h, r .ns) in
-      ap (λ (o : ℕ). buffered (y .tab) o 8) (r .holds i b .at) ∙ buffered-is i b 8 (omega arith) ∙ ap (λ (x : ℕ). pending (a .blocks) x 8) (omega arith))
+      let b : i < length (slotsOf (a .dir)) = omega (arith, h, r .ns) in
+      ap (λ (o : ℕ). buffered S (y .tab) o 8) (r .holds i b .at) ∙ buffered-is i b 8 (omega arith) ∙ ap (λ (x : ℕ). pending (a .blocks) x 8) (omega arith))
 
   -- ---- a block that reads
 
@@ -148,10 +162,10 @@ module _ (M S : ℕ) (z : Shape M S) (ds : List ℕ) (d : Listing S ds) (y : Mac
       go (writing s ub) o e = absurd (omega arith)
       go (reading s j i) o e =
           let φ = called-zero M S a n (asks a n b) (reading s j i) (q .function) (q .drive) o fits-one in
-          let st = asked M S z ds d y a f n b (q .block) in
+          let st = asked M S z y a f n b (q .block) in
           by s j i (called M S a n (asks a n b)) (st .ans) (st .byte)
           (subst (Fetched a n s (had j i) (concat ((file a s) .body))) (sym φ)
-          (fetched M S z ds d y a f n s (had j i) (concat ((file a s) .body)) (q .block) (record { j = j; i = i; reader = o; pos = refl; bytes = refl }) (asks a n b)))
+          (fetched M S z y a f n s (had j i) (concat ((file a s) .body)) (q .block) (record { j = j; i = i; reader = o; pos = refl; bytes = refl }) (asks a n b)))
         where
           by : (s j i : ℕ) (ψ : Fate) → answers flex y (asking n b) ≡ reply ψ → gave flex y (asking n b) ≡ gives ψ
               → Fetched a n s (had j i) (concat ((file a s) .body)) ψ
@@ -176,19 +190,16 @@ module _ (x : Machine) (s : Start x) where
   abbrev S : ℕ
   S = perTrack (x .img)
 
-  abbrev ds : List ℕ
-  ds = directory (x .img) S
-
   abbrev a : Ledger
   a = begun x
 
-  at-rest : (i : ℕ) → i < length (slotsOf ds) → live (x .img) (getD (slotsOf ds) i 0) ≡ true → Rests a i (fileAt S (x .img) (getD (slotsOf ds) i 0))
+  at-rest : (i : ℕ) → i < length (slotsOf (a .dir)) → live (x .img) (getD (slotsOf (a .dir)) i 0) ≡ true → Rests a i (fileAt S (x .img) (getD (slotsOf (a .dir)) i 0))
   unfolding ledgerOf fileAt
   at-rest i h v =
       record {
-        is = files-at S (x .img) (slotsOf ds) i h;
-        low = omega (arith, length-files S (x .img) (slotsOf ds));
-        alive = sym (live-at (x .img) (part (x .img) (getD (slotsOf ds) i 0) 11) (getD (slotsOf ds) i 0) refl) ∙ v;
+        is = files-at S (x .img) (slotsOf (a .dir)) i h;
+        low = omega (arith, length-files S (x .img) (slotsOf (a .dir)));
+        alive = sym (live-at (x .img) (part (x .img) (getD (slotsOf (a .dir)) i 0) 11) (getD (slotsOf (a .dir)) i 0) refl) ∙ v;
         quiet = λ m hm w. omega (arith, w, ap writes (getD-replicate {A = Block} 8 m closed closed hm));
       }
 
@@ -199,48 +210,63 @@ module _ (x : Machine) (s : Start x) where
     abbrev h : Ledger
     h = told flex x cs
 
-    f : Fine M S ds y h × Told M S (scenes M S a (log flex x cs))
-    f = always M S (start-shape x s) ds (start-list x s) cs x a (start-fine x s)
+    f : Fine M S y h × Told M S (scenes M S a (log flex x cs))
+    f = always M S (start-shape x s) cs x a (start-fine x s)
 
-    same-slots : slots (y .img) S ≡ slots (x .img) S
-    same-slots = ap slotsOf (directory-is M S (start-shape x s) (y .img) ds (start-list x s) (f .0 .agrees .dir) .1)
+    on : Onward S a h
+    on = history-onward M S (start-shape x s) cs x a (start-fine x s)
 
-    same-base : h .base ≡ x .img
-    unfolding ledgerOf
-    same-base = history-base M S (start-shape x s) ds (start-list x s) cs x a (start-fine x s)
+    here : directory (y .img) M S ≡ h .dir
+    here = directory-is M S (start-shape x s) (y .img) (h .dir) (f .0 .agrees .listing) (f .0 .agrees .dir) .1
+
+    -- the slots of the start, where they stood
+    stood : Begins (slotsOf (a .dir)) (slotsOf (h .dir))
+    stood = begins (slotsOf (a .dir)) (slotsOf (on .ks)) (slotsOf (h .dir)) (ap slotsOf (on .dir) ∙ slots-append (a .dir) (on .ks))
+
+    -- where the history has the slots
+    at-places : (fs : List File) (os : List ℕ) → length fs ≡ length os → ((i : ℕ) → i < length os → getD fs i noFile .at ≡ getD os i 0) → os ≡ placesOf fs
+    at-places [] [] e q = refl
+    at-places [] (o ∷ os) e q = absurd (omega arith)
+    at-places (g ∷ fs) [] e q = absurd (omega arith)
+    at-places (g ∷ fs) (o ∷ os) e q = ap₂ (λ (u : ℕ) (v : List ℕ). u ∷ v) (sym (q 0 (omega arith))) (at-places fs os (omega arith) (λ i b. q (suc i) (omega arith)))
 
     pub sound : Sound flex x cs
-    unfolding fileAt
+    unfolding fileAt ledgerOf
     sound =
         let z = start-shape x s in
-        let d = start-list x s in
         let r = f .0 .agrees in
         record {
           answered = f .1;
-          image = image-is M S z ds d (y .img) (y .tab) h r;
+          image = image-is M S z (y .img) (y .tab) h r;
           table = table-is (y .tab) (h .fcbs) (f .0 .formed) (r .tlen);
-          accepted = λ xs ys. census-is M S z ds d y h (f .0) xs ys;
-          each-once = once-each M S z ds d y h (f .0);
-          no-more = no-others M S z ds d y h (f .0);
-          places = same-slots;
-          entries = λ i b. entry-is M S z ds d (y .img) (y .tab) h r i b;
-          files = files-shown M S z ds d y h (f .0);
-          readers = λ n b q e. reader-next M S z ds d y h (f .0) n b q e;
-          lists = λ n b p q e l. shows M S z ds d y h (f .0) n b p q e l;
-          fetches = λ n b q e l. fetches M S z ds d y h (f .0) n b q e l;
-          stays = λ p low w k. stays M S ds y h r p low w k ∙ ap (λ (m : List ℕ). getD m p 0) same-base;
+          accepted = λ xs ys. census-is M S z y h (f .0) xs ys;
+          each-once = once-each M S z y h (f .0);
+          no-more = no-others M S z y h (f .0);
+          sectors = here;
+          places = ap slotsOf here ∙ at-places (h .slots) (slotsOf (h .dir)) (r .ns) (λ i b. r .holds i b .at);
+          stood = rw here stood;
+          keeps = λ c.
+              let w = then-onward M S z y h (f .0) c in
+              begins (h .dir) (w .ks) (told flex x (cs ++ c ∷ []) .dir) (ap (λ (l : Ledger). l .dir) (history-more M S cs x a c) ∙ w .dir);
+          entries = λ i. rw here (λ b. entry-is M S z (y .img) (y .tab) h r i b);
+          files = files-shown M S z y h (f .0);
+          readers = λ n b q e. reader-next M S z y h (f .0) n b q e;
+          lists = λ n b p q e l. shows M S z y h (f .0) n b p q e l;
+          fetches = λ n b q e l. fetches M S z y h (f .0) n b q e l;
+          stays = λ p at w k l. stays M S z (x .img) (x .tab) (y .img) (y .tab) a h (start-fine x s .agrees) r on refl p w k l at;
           rests = λ c k u v.
               ap (λ (w : Machine). part (w .img) (256 * k + 2) 254) (run-more cs x c)
-              ∙ free-stays M S z ds d y h (f .0) c k u (ap (λ (w : Ledger). member k (w .free)) (sym (history-more M S cs x a c)) ∙ v);
+              ∙ free-stays M S z y h (f .0) c k u (ap (λ (w : Ledger). member k (w .free)) (sym (history-more M S cs x a c)) ∙ v);
           spared = λ i b v u.
               let g = at-rest i b v in
-              let q = rests-same M S z ds d cs x a (start-fine x s) i (fileAt S (x .img) (getD (slotsOf ds) i 0)) g u in
+              let q = rests-same M S z cs x a (start-fine x s) i (fileAt S (x .img) (getD (slotsOf (a .dir)) i 0)) g u in
               let e : file h i ≡ file a i = q .is ∙ sym (g .is) in
               let l : live (file a i .name) 0 ≡ true = ap (λ (k : File). live (k .name) 0) (g .is) ∙ g .alive in
-              let r0 = start-fine x s .agrees in (
-                spared-entry M S z ds d (x .img) (x .tab) (y .img) (y .tab) a h r0 r i b e l,
-                spared-chain M S z ds d (x .img) (x .tab) (y .img) (y .tab) a h r0 r i b e l,
-                spared-sectors M S z ds d (x .img) (x .tab) (y .img) (y .tab) a h r0 r i b e l,
+              let r0 = start-fine x s .agrees in
+              let t = slot-stood S a h on i b in (
+                spared-entry M S z (x .img) (x .tab) (y .img) (y .tab) a h r0 r i b (t .0) (t .1) e l,
+                spared-chain M S z (x .img) (x .tab) (y .img) (y .tab) a h r0 r i b (t .0) (t .1) e l,
+                spared-sectors M S z (x .img) (x .tab) (y .img) (y .tab) a h r0 r i b (t .0) (t .1) e l,
               );
         }
 

@@ -2,11 +2,11 @@
 use mathlib.Core.Path.{_≡_, refl, sym, ap, _∙_}
 use mathlib.Core.Logic.{_≢_}
 use mathlib.Core.Bool.{Bool, true, false}
-use mathlib.Core.List.{List, [], _∷_}
-use Prim.Native.Nat.{ℕ, zero, suc, _<_}
+use mathlib.Core.List.{List, [], _∷_, _++_}
+use Prim.Native.Nat.{ℕ, zero, suc, _+_, _<_}
 use native.Mathlib.Omega.{arith}
 use native.Mathlib.Decide.{ℕ-discrete}
-use lib.ListN.{length, getD, set, length-set}
+use lib.ListN.{length, getD, set, length-append, length-set}
 use lib.Seq.{getD-set-same, getD-set-other}
 use Rattle.rules.specs.Bytes.{pick, part, same}
 use Rattle.rules.specs.Directory.{live, named}
@@ -103,13 +103,62 @@ module _ (fs : List File) (t : Tidy fs) (s : ℕ) (f : File) (hs : s < length fs
       ap′ i j (no e) (no q) ne a b u v w =
           t .apart i j ne a b (ap (λ (x : List ℕ). live x 0) (sym (other i e)) ∙ u) (ap (λ (x : List ℕ). live x 0) (sym (other j q)) ∙ v) (sym (other i e) ∙ w ∙ other j q)
 
+-- more slots behind them: the first gets a file of another name, the others are not live
+pub data Place (fs us : List File) (f : File) (i : ℕ) : Type 0 where
+  old : i < length fs → getD (fs ++ f ∷ us) i noFile ≡ getD fs i noFile → Place fs us f i
+  new : i ≡ length fs → getD (fs ++ f ∷ us) i noFile ≡ f → Place fs us f i
+  behind : (j : ℕ) → i ≡ length fs + suc j → getD (fs ++ f ∷ us) i noFile ≡ getD us j noFile → Place fs us f i
+
+pub place : (fs us : List File) (f : File) (i : ℕ) → Place fs us f i
+place [] us f zero = new refl refl
+place [] us f (suc i) = behind i (omega arith) refl
+place (g ∷ fs) us f zero = old (omega arith) refl
+place (g ∷ fs) us f (suc i) = go (place fs us f i)
+  where
+    go : Place fs us f i → Place (g ∷ fs) us f (suc i)
+    go (old h e) = old (omega arith) e
+    go (new h e) = new (omega arith) e
+    go (behind j h e) = behind j (omega arith) e
+
+pub tidy-more : (fs us : List File) (f : File) → Tidy fs → length (f .name) ≡ 11
+    → ((j : ℕ) → j < length fs → live (nameOf fs j) 0 ≡ true → nameOf fs j ≢ f .name)
+    → ((i : ℕ) → i < length us → (length (nameOf us i) ≡ 11) × (live (nameOf us i) 0 ≡ false)) → Tidy (fs ++ f ∷ us)
+tidy-more fs us f t long free rest =
+    record { long = λ i h. lo i h (place fs us f i); apart = λ i j ne a b. ap′ i j a b ne (place fs us f i) (place fs us f j) }
+  where
+    is : (i : ℕ) {g : File} → getD (fs ++ f ∷ us) i noFile ≡ g → nameOf (fs ++ f ∷ us) i ≡ g .name
+    is i e = ap (λ (g : File). g .name) e
+
+    alive : (i : ℕ) {g : File} → getD (fs ++ f ∷ us) i noFile ≡ g → live (nameOf (fs ++ f ∷ us) i) 0 ≡ true → live (g .name) 0 ≡ true
+    alive i e l = ap (λ (x : List ℕ). live x 0) (sym (is i e)) ∙ l
+
+    lo : (i : ℕ) → i < length (fs ++ f ∷ us) → Place fs us f i → length (nameOf (fs ++ f ∷ us) i) ≡ 11
+    lo i h (old b e) = rw (is i e) (t .long i b)
+    lo i h (new b e) = rw (is i e) long
+    lo i h (behind j b e) = rw (is i e) (rest j (omega (arith, length-append fs (f ∷ us))) .0)
+
+    -- none of the others is live
+    quiet : (i j : ℕ) {A : Type 0} → i < length (fs ++ f ∷ us) → i ≡ length fs + suc j → getD (fs ++ f ∷ us) i noFile ≡ getD us j noFile
+        → live (nameOf (fs ++ f ∷ us) i) 0 ≡ true → A
+    quiet i j h b e l = absurd-bool (alive i e l) (rest j (omega (arith, length-append fs (f ∷ us))) .1)
+
+    ap′ : (i j : ℕ) → i < length (fs ++ f ∷ us) → j < length (fs ++ f ∷ us) → i ≢ j → Place fs us f i → Place fs us f j
+        → live (nameOf (fs ++ f ∷ us) i) 0 ≡ true → live (nameOf (fs ++ f ∷ us) j) 0 ≡ true → nameOf (fs ++ f ∷ us) i ≢ nameOf (fs ++ f ∷ us) j
+    ap′ i j a b ne (behind k h e) q u v w = quiet i k a h e u
+    ap′ i j a b ne (old h e) (behind k h′ e′) u v w = quiet j k b h′ e′ v
+    ap′ i j a b ne (new h e) (behind k h′ e′) u v w = quiet j k b h′ e′ v
+    ap′ i j a b ne (old h e) (old h′ e′) u v w = t .apart i j ne h h′ (alive i e u) (alive j e′ v) (sym (is i e) ∙ w ∙ is j e′)
+    ap′ i j a b ne (old h e) (new h′ e′) u v w = free i h (alive i e u) (sym (is i e) ∙ w ∙ is j e′)
+    ap′ i j a b ne (new h e) (old h′ e′) u v w = free j h′ (alive j e′ v) (sym (is j e′) ∙ sym w ∙ is i e)
+    ap′ i j a b ne (new h e) (new h′ e′) u v w = ne (h ∙ sym h′)
+
 -- ---- what is not found is nobody's
 
 named-own : (x nm : List ℕ) → live x 0 ≡ true → length x ≡ 11 → x ≡ nm → named x nm 0 ≡ true
 unfolding named
 named-own x nm l k e = rw (l, part-all x 11 k, e) (same-refl nm)
 
-slot-not : (x : ℕ) → slot x ≡ nowhere → ⊥
+pub slot-not : (x : ℕ) → slot x ≡ nowhere → ⊥
 slot-not x e = let y : _≡_ {A = ℕ} 0 1 = cc in omega arith
 
 later-none : (x : Sought) → later x ≡ nowhere → x ≡ nowhere

@@ -1,13 +1,13 @@
 -- No second outcome fits the promise of a public function of this crate.
 use mathlib.Core.List.{List}
-use Prim.Native.Nat.{ℕ}
+use Prim.Native.Nat.{ℕ, _+_}
 use lib.ListN.{length, replicate}
 use Rattle.rules.specs.Bytes.{over, one, zeros}
 use Rattle.laws.specs.Single.{Single, single}
 use Rattle.census_laws.specs.Marks.{marking, SingleMarked, single-marked}
 
-pub place-single : (out : List ℕ) (at v : ℕ) → Single (over out at (one v))
-place-single out at v = single (over out at (one v))
+pub place-single : (out : List ℕ) (at i v : ℕ) → Single (over out (at + i) (one v))
+place-single out at i v = single (over out (at + i) (one v))
 
 pub run-single : (out : List ℕ) (at n v : ℕ) → Single (over out at (replicate n v))
 run-single out at n v = single (over out at (replicate n v))

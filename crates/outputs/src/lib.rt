@@ -1,17 +1,22 @@
 // Leaves over the census's outputs, slices of 16-bit numbers: a number stored, a run of equal numbers, marks. All are total:
 // past the end nothing is stored.
 ghost use mathlib.Core.Path.{_≡_};
+ghost use Prim.Native.Nat.{_+_};
 ghost use lib.ListN.{length, replicate};
 ghost use Rattle.rules.specs.Bytes.{over, one, zeros};
 ghost use Rattle.census_laws.specs.Marks.{marked, marking};
 
-// A number stored.
-pub fn place(out: &mut [u16], at: usize, v: u16)
-    ensures { λ _. ⌜ now (out .exit) ≡ over (now (out .entry)) at (one v) ⌝ }
+// A number stored, i places behind a place. Their sum may be past any output's end.
+pub fn place(out: &mut [u16], at: usize, i: usize, v: u16)
+    ensures { λ _. ⌜ now (out .exit) ≡ over (now (out .entry)) (at + i) (one v) ⌝ }
 {
-    if at < out.len() {
-        out[at] = v;
+    if out.len() <= at {
+        return;
     }
+    if out.len() - at <= i {
+        return;
+    }
+    out[at + i] = v;
 }
 
 // A number stored n times, from a place on.

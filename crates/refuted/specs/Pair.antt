@@ -132,6 +132,34 @@ pair-start = record { accepted = refl; bytes = small-below pairImage pair-below;
     shut (suc (suc (suc (suc (suc (suc (suc zero))))))) h = refl
     shut (suc (suc (suc (suc (suc (suc (suc (suc n)))))))) h = absurd (omega arith)
 
+-- ---- the same with no slot left: H.TXT to N.TXT, of no sectors, where slots were deleted or never used. First free is 6
+
+unfoldable pub fullStores : List Store
+unfolding txt entry
+fullStores =
+    store 4 40 (entry 72 txt 0 (zeros 6) (zeros 3))
+    ∷ store 4 64 (entry 73 txt 0 (zeros 6) (zeros 3))
+    ∷ store 4 88 (entry 74 txt 0 (zeros 6) (zeros 3))
+    ∷ store 4 112 (entry 75 txt 0 (zeros 6) (zeros 3))
+    ∷ store 4 184 (entry 76 txt 0 (zeros 6) (zeros 3))
+    ∷ store 4 208 (entry 77 txt 0 (zeros 6) (zeros 3))
+    ∷ store 4 232 (entry 78 txt 0 (zeros 6) (zeros 3))
+    ∷ []
+
+unfoldable pub fullImage : List ℕ
+fullImage = stored pairImage fullStores
+
+unfoldable pub full : Machine
+full = record { img = fullImage; tab = pairTable }
+
+full-below : below fullImage ≡ true
+unfolding rules pairImage pairStores fullImage fullStores below entry txt dat
+full-below = refl
+
+pub full-start : Start full
+unfolding rules pair full pairImage pairStores fullImage fullStores entry txt dat
+full-start = record { accepted = refl; bytes = small-below fullImage full-below; table = pair-start .table; closed = pair-start .closed }
+
 unfoldable pub paired : Unit {0}
-unfolding pair pairImage pairStores pairTable pairForms entry leftForm txt dat
+unfolding pair pairImage pairStores pairTable pairForms full fullImage fullStores entry leftForm txt dat
 paired = tt

@@ -14,13 +14,13 @@ use Rattle.rules.specs.Outcome.{Out, saysOf, leftOf}
 use Rattle.rules.specs.Census.{Survey, survey}
 use Rattle.rules.specs.All.{rules}
 use Rattle.laws.specs.Tests.{never}
-use Rattle.demands.specs.Ledger.{Call, setting, asking, file, entryOf, tableOf, fate, reply}
+use Rattle.demands.specs.Ledger.{Call, setting, asking, file, entryOf, imageOf, tableOf, fate, reply}
 use Rattle.demands.specs.Diskette.{ledgerNumbers, ledgerOwners}
 use Rattle.demands.specs.Service.{Wanted, Service, flex, ansOf, imgOf, tabOf, answers, gave, next, run}
-use Rattle.demands.specs.Demands.{Lent, surveyAnswer, begun, told, wholly, Demand1, Demand2, Demand3, ReadBack, Created, FromBlank}
-use Rattle.demands.specs.Fakes.{withCall, refusing, deaf, idling, stuck, nodding, eager, counting, inventing, meddling, deleting, misextending, wiping, mislisting, misnoting, scrambling, stingy, swapping, booting, misplacing, stalling, purging, softening, stopping, heedless, guarding, sealing, dataLeft, hasty, hoarding, rash, interleaving}
+use Rattle.demands.specs.Demands.{Lent, surveyAnswer, begun, told, sectorsIn, wholly, Demand1, Demand2, Demand3, ReadBack, Created, FromBlank}
+use Rattle.demands.specs.Fakes.{withCall, refusing, deaf, idling, stuck, nodding, eager, counting, inventing, meddling, deleting, misextending, wiping, mislisting, misnoting, scrambling, stingy, swapping, booting, misplacing, stalling, purging, softening, stopping, heedless, guarding, sealing, dataLeft, hasty, hoarding, rash, interleaving, balking, smudging, detaching, returning, masking}
 use Rattle.refuted.specs.All.{demands}
-use Rattle.refuted.specs.Pair.{bDat, bDatAt, gapAt, pairImage, pair, pair-start, paired}
+use Rattle.refuted.specs.Pair.{bDat, bDatAt, gapAt, pairImage, pair, pair-start, full, full-start, paired}
 
 differ : (x y : ℕ) → eqb x y ≡ false → x ≡ y → ⊥
 differ x y h e = never (sym h ∙ eq-eqb x y e)
@@ -338,7 +338,7 @@ pub inventing-fails : Demand3 inventing → ⊥
 unfolding rules demands paired
 inventing-fails d = differ 0 1 refl (ap (λ (s : Survey). getD (ownersIn s) 2 0) (d pair pair-start [] .accepted (zeros 5) (zeros 5) refl refl))
 
-pub inventing-ours : Both (getD (ownersIn (surveyed flex)) 2 0) (getD (ledgerOwners (begun pair)) 2 0) 1
+pub inventing-ours : Both (getD (ownersIn (surveyed flex)) 2 0) (getD (ledgerOwners 5 (begun pair)) 2 0) 1
 unfolding rules demands paired
 inventing-ours = (refl, refl)
 
@@ -420,8 +420,59 @@ swapping-ours = (refl, refl)
 -- `stays`: C.TXT gets a byte
 pub booting-fails : Demand3 booting → ⊥
 unfolding rules demands paired
-booting-fails d = differ 99 1 refl (d pair pair-start (asking 0 0 ∷ asking 0 7 ∷ []) .stays 0 (omega arith) refl refl)
+booting-fails d = differ 99 1 refl (d pair pair-start (asking 0 0 ∷ asking 0 7 ∷ []) .stays 0 refl refl refl refl)
 
 pub booting-ours : Both (byteAt (run flex pair (asking 0 0 ∷ asking 0 7 ∷ []) .img) 0) (byteAt (pair .img) 0) 1
 unfolding rules demands paired
 booting-ours = (refl, refl)
+
+-- ---- where no slot is left: block 0 makes C.TXT, and the directory gets sector 6
+
+-- `opens`, of demand 2
+pub balking-fails : Demand2 balking → ⊥
+unfolding rules demands paired
+balking-fails d = differ 6 0 refl (d .creates full full-start [] 0 10 0 (record { block = omega arith; function = refl; drive = refl }) refl refl refl refl .opens)
+
+pub balking-ours : answers flex full (asking 0 0) ≡ 0
+unfolding rules demands paired
+balking-ours = refl
+
+-- `image`: byte 4 of the sector, where 88 stood
+pub smudging-fails : Demand3 smudging → ⊥
+unfolding rules demands paired
+smudging-fails d = differ 88 0 refl (ap (λ (m : List ℕ). byteAt m 1540) (d full full-start (asking 0 0 ∷ []) .image))
+
+pub smudging-ours : (byteAt (full .img) 1540 ≡ 88)
+    × Both (byteAt (run flex full (asking 0 0 ∷ []) .img) 1540) (byteAt (imageOf 5 (told flex full (asking 0 0 ∷ []))) 1540) 0
+unfolding rules demands paired
+smudging-ours = (refl, (refl, refl))
+
+-- `accepted`: the census gives 46, since the sector is nobody's
+pub detaching-fails : Demand3 detaching → ⊥
+unfolding rules demands paired
+detaching-fails d = differ 46 0 refl (ap surveyAnswer (d full full-start (asking 0 0 ∷ []) .accepted (zeros 5) (zeros 5) refl refl))
+
+pub detaching-ours : flex .census (run flex full (asking 0 0 ∷ []) .img) (zeros 5) (zeros 5) ≡ survey 0 (4 ∷ 1 ∷ 2 ∷ 0 ∷ 3 ∷ []) (0 ∷ 65534 ∷ 1 ∷ 1 ∷ 6 ∷ [])
+unfolding rules demands paired
+detaching-ours = refl
+
+-- `accepted`: the directory's sector has an owner of its own
+pub masking-fails : Demand3 masking → ⊥
+unfolding rules demands paired
+masking-fails d = differ 0 65534 refl (ap (λ (s : Survey). getD (ownersIn s) 1 0) (d full full-start (asking 0 0 ∷ []) .accepted (zeros 5) (zeros 5) refl refl))
+
+pub masking-ours : getD (ledgerOwners 5 (told flex full (asking 0 0 ∷ []))) 1 0 ≡ 65534
+unfolding rules demands paired
+masking-ours = refl
+
+-- `sectors`: a byte is sent, C.TXT closed and deleted, and the directory keeps its two sectors
+abbrev unmade : List Call
+unmade = asking 0 0 ∷ asking 0 7 ∷ setting 0 0 4 ∷ asking 0 0 ∷ setting 0 0 12 ∷ asking 0 0 ∷ []
+
+pub returning-fails : Demand3 returning → ⊥
+unfolding rules demands paired
+returning-fails d = differ 1 2 refl (ap length (d full full-start unmade .sectors))
+
+pub returning-ours : (sectorsIn full (run flex full unmade .img) ≡ 4 ∷ 6 ∷ []) × (surveyAnswer (flex .census (run returning full unmade .img) (zeros 5) (zeros 5)) ≡ 0)
+unfolding rules demands paired
+returning-ours = (refl, refl)

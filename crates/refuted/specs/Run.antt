@@ -3,11 +3,12 @@
 use mathlib.Core.Path.{_≡_, refl, ap, _∙_}
 use mathlib.Core.Bool.{Bool, true, false}
 use mathlib.Core.List.{List, [], _∷_, _++_}
-use Prim.Native.Nat.{ℕ, _+_, _*_, _<_}
+use Prim.Native.Nat.{ℕ, _+_, _*_, _/_, _<_}
 use native.Mathlib.Omega.{arith}
 use lib.ListN.{length, getD}
+use lib.Dec.{ltb}
 use Rattle.rules.specs.Bytes.{pick, byteAt, part, within}
-use Rattle.rules.specs.Directory.{live, slots, member}
+use Rattle.rules.specs.Directory.{live, member, lastSector}
 use Rattle.rules.specs.Image.{isSector}
 use Rattle.rules.specs.Block.{idle}
 use Rattle.rules.specs.All.{rules}
@@ -15,10 +16,10 @@ use Rattle.laws.specs.Tests.{never}
 use Rattle.demands.specs.Ledger.{Call, setting, extending, asking, Ledger, Block, closed, listing, reading, writing, file, block, asks, activity, entryOf}
 use Rattle.demands.specs.Service.{flex, Machine, Entry, answers, gave, next, run, log}
 use Rattle.demands.specs.History.{Scene, history, scenes, hits, Unnamed, ahead}
-use Rattle.demands.specs.Demands.{lastTrackOf, perTrackOf, begun, told, past, Asks, Idle, inSlot, placeIn, Sound}
+use Rattle.demands.specs.Demands.{Start, lastTrackOf, perTrackOf, begun, told, past, Asks, Idle, inSlot, inLink, sectorsIn, slotsIn, placeIn, Begins, Sound}
 use Rattle.met.specs.Third.{demand3}
 use Rattle.refuted.specs.All.{demands}
-use Rattle.refuted.specs.Pair.{pair, pair-start, paired}
+use Rattle.refuted.specs.Pair.{below, small-below, pair, pair-start, full, paired}
 
 -- block 0 makes C.TXT and sends two bytes, 5 makes D.TXT and sends one, which takes the last free sector; 7 would delete A.TXT, which is
 -- protected, then makes F.TXT, and gets no sector for its byte; 6 would read C.TXT while it is written; 0 would change its name; 5 closes
@@ -164,14 +165,15 @@ pub trial-unnamed : Unnamed aTxt (past flex pair trial)
 unfolding summary
 trial-unnamed = unnamed aTxt (past flex pair trial) (ap (λ (s : Summary). s .spares) computed)
 
-pub trial-live : (0 < length (slots (pair .img) (perTrackOf pair))) × (live (pair .img) (placeIn pair 0) ≡ true)
+pub trial-live : (0 < length (slotsIn pair (pair .img))) × (live (pair .img) (placeIn pair 0) ≡ true)
 unfolding rules demands paired
 trial-live = (omega arith, refl)
 
 -- byte 0 of the boot sector is named by nobody; 1,5 is a sector
-quiet-there : (0 < 256 * perTrackOf pair) × (inSlot 0 (slots (pair .img) (perTrackOf pair)) ≡ false) × (isSector (lastTrackOf pair) (perTrackOf pair) 261 ≡ true)
+quiet-there : (pick (ltb 0 (256 * perTrackOf pair)) true (member (0 / 256) (sectorsIn pair (pair .img))) ≡ true) × (inSlot 0 (slotsIn pair (pair .img)) ≡ false)
+    × (inLink (lastSector (pair .img) (lastTrackOf pair) (perTrackOf pair)) 0 ≡ false) × (isSector (lastTrackOf pair) (perTrackOf pair) 261 ≡ true)
 unfolding rules demands paired
-quiet-there = (omega arith, refl, refl)
+quiet-there = (refl, refl, refl, refl)
 
 -- of the free sectors 6 and 9 the second call takes 6, and 9 stays free
 pub trial-rests : (member 9 (told flex pair (asking 0 0 ∷ []) .free) ≡ true) × (member 9 (told flex pair (asking 0 0 ∷ asking 0 70 ∷ []) .free) ≡ true)
@@ -198,10 +200,62 @@ clauses =
     let b = trial-busy in (
       s .readers 1 0 (b .reads .0) (b .reads .1) .1 ∙ b .reads .2,
       s .lists 3 0 2 (b .lists .0) (b .lists .1) (b .lists .2) .1,
-      s .fetches 4 0 (b .fetches .0) (b .fetches .1) (ap (isSector (lastTrackOf pair) (perTrackOf pair)) (b .fetches .2) ∙ quiet-there .2) .0,
-      s .stays 0 (quiet-there .0) refl (quiet-there .1),
+      s .fetches 4 0 (b .fetches .0) (b .fetches .1) (ap (isSector (lastTrackOf pair) (perTrackOf pair)) (b .fetches .2) ∙ quiet-there .3) .0,
+      s .stays 0 (quiet-there .0) refl (quiet-there .1) (quiet-there .2),
       s .spared 0 (trial-live .0) (trial-live .1) trial-unnamed .0,
     )
 
 pub clauses-early : part (run flex pair (asking 0 0 ∷ asking 0 70 ∷ []) .img) 2306 254 ≡ part (run flex pair (asking 0 0 ∷ []) .img) 2306 254
 clauses-early = demand3 pair pair-start (asking 0 0 ∷ []) .rests (asking 0 70) 9 (trial-rests .0) (trial-rests .1)
+
+-- ---- A START WHOSE DIRECTORY HAS GROWN: what C.TXT, made where no slot was left, with a byte, and closed, leaves; all blocks closed again
+
+unfoldable pub crowd : List Call
+crowd = asking 0 0 ∷ asking 0 7 ∷ setting 0 0 4 ∷ asking 0 0 ∷ []
+
+unfoldable pub grown : Machine
+grown = record { img = run flex full crowd .img; tab = pair .tab }
+
+pub grown-start : Start grown
+unfolding rules demands paired crowd grown below
+grown-start = record { accepted = refl; bytes = small-below (run flex full crowd .img) refl; table = pair-start .table; closed = pair-start .closed }
+
+-- its directory, and C.TXT's slot, the eleventh, in the second sector
+pub grown-there : (sectorsIn grown (grown .img) ≡ 4 ∷ 6 ∷ []) × (length (slotsIn grown (grown .img)) ≡ 20) × (placeIn grown 10 ≡ 1552) × (live (grown .img) 1552 ≡ true)
+unfolding rules demands paired crowd grown
+grown-there = (refl, refl, refl, refl)
+
+-- block 3 lists ten slots; block 5 makes D.TXT in the twelfth, behind C.TXT's
+unfoldable pub onward : List Call
+onward =
+    asking 3 0 ∷ setting 3 0 7 ∷ asking 3 0 ∷ asking 3 0 ∷ asking 3 0 ∷ asking 3 0 ∷ asking 3 0 ∷ asking 3 0 ∷ asking 3 0 ∷ asking 3 0 ∷ asking 3 0 ∷ asking 3 0
+    ∷ asking 5 0 ∷ []
+
+-- what is computed of it: blocks 3 and 5, how many slots, code and drive of 3, and that no call names C.TXT
+grown-busy : (block (told flex grown onward) 3 ≡ listing 10) × (block (told flex grown onward) 5 ≡ writing 11 []) × (10 < length (told flex grown onward .slots))
+    × Asks (told flex grown onward) 3 7
+unfolding rules demands paired crowd grown onward
+grown-busy = (refl, refl, omega arith, record { block = omega arith; function = refl; drive = refl })
+
+cTxt : List ℕ
+cTxt = part (grown .img) 1552 11
+
+grown-unnamed : Unnamed cTxt (past flex grown onward)
+unfolding rules demands paired crowd grown onward unhit cTxt
+grown-unnamed = unnamed cTxt (past flex grown onward) refl
+
+-- so the clauses say of it: the eleventh slot is shown next, and it is C.TXT's; C.TXT keeps its 24 bytes; byte 2 of the directory's data sector stays;
+-- the slots of the start come first
+pub grown-clauses : (part (next flex (run flex grown onward) (asking 3 0) .tab) 964 24 ≡ entryOf (file (told flex grown onward) 10))
+    × (part (run flex grown onward .img) 1552 24 ≡ part (grown .img) 1552 24)
+    × (byteAt (run flex grown onward .img) 1538 ≡ byteAt (grown .img) 1538)
+    × Begins (slotsIn grown (grown .img)) (slotsIn grown (run flex grown onward .img))
+unfolding rules demands paired crowd grown cTxt
+grown-clauses =
+    let s = demand3 grown grown-start onward in
+    let b = grown-busy in (
+      s .lists 3 0 10 (b .3) (b .0) (b .2) .1,
+      s .spared 10 (omega arith) refl grown-unnamed .0,
+      s .stays 1538 refl refl refl refl,
+      s .stood,
+    )

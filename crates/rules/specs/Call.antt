@@ -44,15 +44,15 @@ checked img tab f next =
 unfoldable pub perform : List ℕ → List ℕ → ℕ → ℕ → ℕ → ℕ → Outcome
 perform img tab M S f b =
     pick (eqb (functionIn tab f) 0) (transfer img tab M S f b)
-    (pick (eqb (functionIn tab f) 1) (openRead img tab S f)
-    (pick (eqb (functionIn tab f) 2) (openWrite img tab S f)
+    (pick (eqb (functionIn tab f) 1) (openRead img tab M S f)
+    (pick (eqb (functionIn tab f) 2) (openWrite img tab M S f)
     (pick (eqb (functionIn tab f) 4) (close img tab M S f)
     (pick (eqb (functionIn tab f) 5) rewind
     (pick (eqb (functionIn tab f) 6) openDirectory
-    (pick (eqb (functionIn tab f) 7) (nextSlot img tab S f)
+    (pick (eqb (functionIn tab f) 7) (nextSlot img tab M S f)
     (pick (eqb (functionIn tab f) 9) (readSector img tab M S f)
     (pick (eqb (functionIn tab f) 12) (delete img tab M S f)
-    (rename img tab S f)))))))))
+    (rename img tab M S f)))))))))
 
 -- what the block that begins at f asks for
 unfoldable pub asked : List ℕ → List ℕ → ℕ → ℕ → Outcome

@@ -2,15 +2,16 @@
 use mathlib.Core.Bool.{Bool, true, false}
 use mathlib.Core.List.{List, [], _∷_, _++_}
 use Prim.Native.Nat.{ℕ, _+_, _*_, _/_, _%_}
+use lib.ListN.{length}
 use lib.Dec.{eqb, ltb}
 use Rattle.rules.specs.Bytes.{pick, part, one, two, six, zeros, same}
 use Rattle.rules.specs.Stores.{Store, store, Put, put}
 use Rattle.rules.specs.Image.{index, isSector, isData, infoSector, infoFirst, firstFree, lastFree, freeCount}
 use Rattle.rules.specs.Names.{legal}
-use Rattle.rules.specs.Directory.{directoryRight, firstOfDirectory, firstSlotOf, find, vacancy, placeOf, slotBehind, attributesAt, startAt, endAt, sizeAt}
-use Rattle.rules.specs.Outcome.{Outcome, done, unless, when, onSlot, onNone}
+use Rattle.rules.specs.Directory.{firstOfDirectory, mostOfDirectory, firstDisplacement, firstSlotOf, placeOf, slotBehind, directoryRight, directory, lastSector, slots, find, vacancy, attributesAt, startAt, endAt, sizeAt}
+use Rattle.rules.specs.Outcome.{Outcome, done, unless, when, onSlot, onNone, orElse}
 use Rattle.rules.specs.Block.{functionField, activityField, nameField, positionField, indexField, placeField, newNameField, compressionField, bufferField, nameIn, dateIn, positionIn, placeIn, newNameIn, inUse}
-use Rattle.rules.specs.Transfer.{slotIn, linked, mark}
+use Rattle.rules.specs.Transfer.{onFree, offFree, slotIn, linked, mark}
 
 -- ---- what a slot's attributes forbid
 
@@ -32,37 +33,55 @@ readProtected attributes = hasAttribute 32 attributes
 -- ---- 1 open read, 2 open write
 
 -- "Both then copy the slot to 4-27, zero 0 and 30-35, set 2, 47-49, and 59 to 255."
-unfoldable pub opened : ℕ → ℕ → List ℕ → List Put
-opened act slot entry =
+unfoldable pub opened : ℕ → ℕ → ℕ → List ℕ → List Put
+opened S act slot entry =
     put nameField entry
     ∷ put functionField (one 0)
     ∷ put positionField (zeros 6)
     ∷ put activityField (one act)
-    ∷ put placeField (placeOf slot)
+    ∷ put placeField (placeOf S slot)
     ∷ put compressionField (one 255)
     ∷ []
 
 -- "1 open read: activity 0 or 16; 21, 5, 4, 2 (an FCB of activity 2 has that place)." 02, "Open for read gives 17 for such a file, after 4 and
 -- before 2."
-unfoldable pub openRead : List ℕ → List ℕ → ℕ → ℕ → Outcome
-openRead img tab S f =
+unfoldable pub openRead : List ℕ → List ℕ → ℕ → ℕ → ℕ → Outcome
+openRead img tab M S f =
     unless (legal tab (f + nameField)) 21
-    (onSlot (find img S (nameIn tab f)) 5 4 λ slot.
+    (onSlot (find img M S (nameIn tab f)) 5 4 λ slot.
     when (readProtected (attributesAt img slot)) 17
-    (when (inUse false tab (placeOf slot)) 2
-    (done 0 [] (opened 1 slot (part img slot 24)))))
+    (when (inUse false tab (placeOf S slot)) 2
+    (done 0 [] (opened S 1 slot (part img slot 24)))))
 
 -- "gets name and date, all else 0"
 unfoldable pub newEntry : List ℕ → ℕ → List ℕ
 newEntry tab f = nameIn tab f ++ (zeros 10 ++ dateIn tab f)
 
--- "2 open write: same activity; 21, 5, 3, 6; the first deleted or never-used slot in order gets name and date"
-unfoldable pub openWrite : List ℕ → List ℕ → ℕ → ℕ → Outcome
-openWrite img tab S f =
+-- 02, "takes the first free sector, clears it and links it behind the last directory sector", and the sector's first slot is the new file's; the
+-- stores in this order
+unfoldable pub growStores : List ℕ → List ℕ → ℕ → ℕ → ℕ → List Store
+growStores img tab M S f =
+    offFree img S
+    ∷ store (index S (firstFree img)) 0 (zeros 256)
+    ∷ store (lastSector img M S) 0 (two (firstFree img))
+    ∷ store (index S (firstFree img)) firstDisplacement (newEntry tab f)
+    ∷ []
+
+-- "if the count is 0 it answers 7, then 10 if that sector is no data sector or the chain is at its longest"
+unfoldable pub grow : List ℕ → List ℕ → ℕ → ℕ → ℕ → Outcome
+grow img tab M S f =
+    onFree img M S
+    (unless (ltb (length (directory img M S)) (mostOfDirectory M S)) 10
+    (done 0 (growStores img tab M S f) (opened S 2 (firstSlotOf (index S (firstFree img))) (newEntry tab f))))
+
+-- "2 open write: same activity; 21, 5, 3 ..; the first deleted or never-used slot in order gets name and date"; 02, "When no slot is left", the
+-- directory grows
+unfoldable pub openWrite : List ℕ → List ℕ → ℕ → ℕ → ℕ → Outcome
+openWrite img tab M S f =
     unless (legal tab (f + nameField)) 21
-    (onNone (find img S (nameIn tab f)) 5 3
-    (onSlot (vacancy img S) 5 6 λ slot.
-    done 0 (store (slot / 256) (slot % 256) (newEntry tab f) ∷ []) (opened 2 slot (newEntry tab f))))
+    (onNone (find img M S (nameIn tab f)) 5 3
+    (orElse (vacancy img M S) 5 (grow img tab M S f) λ slot.
+    done 0 (store (slot / 256) (slot % 256) (newEntry tab f) ∷ []) (opened S 2 slot (newEntry tab f))))
 
 -- ---- 5 rewind, 6 open directory, 7 next slot, 9 read sector
 
@@ -75,17 +94,17 @@ unfoldable pub openDirectory : Outcome
 openDirectory = done 0 [] (put activityField (one 16) ∷ put placeField (zeros 3) ∷ [])
 
 -- "Slot to 4-27.", and the place moves to it
-unfoldable pub shown : List ℕ → ℕ → Outcome
-shown img slot = done 0 [] (put placeField (placeOf slot) ∷ put nameField (part img slot 24) ∷ [])
+unfoldable pub shown : List ℕ → ℕ → ℕ → Outcome
+shown img S slot = done 0 [] (put placeField (placeOf S slot) ∷ put nameField (part img slot 24) ∷ [])
 
 -- "7 next slot: .. place 0,0,0 goes to the first slot; after the last, 8 and no move; 5 before 8."
-unfoldable pub nextSlot : List ℕ → List ℕ → ℕ → ℕ → Outcome
-nextSlot img tab S f =
+unfoldable pub nextSlot : List ℕ → List ℕ → ℕ → ℕ → ℕ → Outcome
+nextSlot img tab M S f =
     pick (same (placeIn tab f) (zeros 3))
-    (unless (directoryRight img S) 5 (shown img (firstSlotOf firstOfDirectory)))
-    (onSlot (slotIn img tab S f) 5 5 λ slot.
-    onSlot (slotBehind img S slot) 5 8 λ next.
-    shown img next)
+    (unless (directoryRight img M S) 5 (shown img S (firstSlotOf firstOfDirectory)))
+    (onSlot (slotIn img tab M S f) 5 5 λ slot.
+    onSlot (slotBehind slot (slots img M S)) 5 8 λ next.
+    shown img S next)
 
 -- "9 read sector: .. any existing sector at 30-31 to the buffer, else 9."
 unfoldable pub readSector : List ℕ → List ℕ → ℕ → ℕ → ℕ → Outcome
@@ -122,19 +141,19 @@ remove img M S slot =
 unfoldable pub delete : List ℕ → List ℕ → ℕ → ℕ → ℕ → Outcome
 delete img tab M S f =
     unless (legal tab (f + nameField)) 21
-    (onSlot (find img S (nameIn tab f)) 5 4 λ slot.
-    when (inUse true tab (placeOf slot)) 2
+    (onSlot (find img M S (nameIn tab f)) 5 4 λ slot.
+    when (inUse true tab (placeOf S slot)) 2
     (when (deleteProtected (attributesAt img slot)) 12
     (when (writeProtected (attributesAt img slot)) 11
     (remove img M S slot))))
 
 -- "13 rename: activity 0 or 16; 21 for either name, 5, 4, 2 (activity 1 or 2), 11, 3 (its own name too). New name to slot and FCB."
-unfoldable pub rename : List ℕ → List ℕ → ℕ → ℕ → Outcome
-rename img tab S f =
+unfoldable pub rename : List ℕ → List ℕ → ℕ → ℕ → ℕ → Outcome
+rename img tab M S f =
     unless (legal tab (f + nameField)) 21
     (unless (legal tab (f + newNameField)) 21
-    (onSlot (find img S (nameIn tab f)) 5 4 λ slot.
-    when (inUse true tab (placeOf slot)) 2
+    (onSlot (find img M S (nameIn tab f)) 5 4 λ slot.
+    when (inUse true tab (placeOf S slot)) 2
     (when (writeProtected (attributesAt img slot)) 11
-    (onNone (find img S (newNameIn tab f)) 5 3
+    (onNone (find img M S (newNameIn tab f)) 5 3
     (done 0 (store (slot / 256) (slot % 256) (newNameIn tab f) ∷ []) (put nameField (newNameIn tab f) ∷ []))))))

@@ -44,6 +44,10 @@ sectorOf a = a % 256
 unfoldable pub index : ℕ → ℕ → ℕ
 index S a = trackOf a * S + sectorOf a - 1
 
+-- and the address of the sector with the index k
+unfoldable pub addressOf : ℕ → ℕ → ℕ
+addressOf S k = 256 * (k / S) + k % S + 1
+
 -- "Sectors are numbered from 1, tracks from 0": the sector exists
 unfoldable pub isSector : ℕ → ℕ → ℕ → Bool
 isSector M S a = pick (leb (trackOf a) M) (within 1 S (sectorOf a)) false

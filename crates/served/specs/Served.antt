@@ -62,12 +62,12 @@ faultOf img = fault img (lastTrack img) (perTrack img)
 
 -- 42 to 46, or both lists
 found : (img : List ℕ) → Shaped img
-    → backOf (hostConcluded img (perTrack img) (2 * dataSectors img) (faultOf img)) ≡ concluded img (perTrack img) (dataSectors img) (faultOf img)
+    → backOf (hostConcluded img (lastTrack img) (perTrack img) (faultOf img)) ≡ concluded img (lastTrack img) (perTrack img) (faultOf img)
 unfolding hostConcluded concluded
 found img z =
     pick-both (eqb (faultOf img) 0) _ _ _ _
     (λ e. let s = fault-is img (lastTrack img) (perTrack img) .1 (eqb-true (faultOf img) 0 e) in
-    ap₂ (survey 0) (words-back (listed img (perTrack img)) (listed-fit img z s)) (words-back (owners img (perTrack img)) (owners-fit img z s)))
+    ap₂ (survey 0) (words-back (listed img (lastTrack img) (perTrack img)) (listed-fit img z s)) (words-back (owners img (lastTrack img) (perTrack img)) (owners-fit img z s)))
     (λ e. ap₂ (survey (faultOf img)) (words-full (dataSectors img)) (words-full (dataSectors img)))
 
 module _ (img xs ys : List ℕ) (p : Output xs) (q : Output ys) where

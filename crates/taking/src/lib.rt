@@ -1,21 +1,22 @@
-// Taking a sector for a file that is written: everything is loaded first, then tested in 01's order, then stored. A block begins at
-// f; M is `last`, S is `per`.
+// Taking the first sector off the free chain, for a file or for the directory; and taking a sector for a file that is written: all is
+// loaded first, then tested in 01's order, then stored. A block begins at f; M is `last`, S is `per`.
 ghost use mathlib.Core.Path.{_≡_};
-ghost use Prim.Native.Nat.{_+_, _*_, _/_, _%_};
+ghost use mathlib.Core.List.{[], _∷_};
+ghost use Prim.Native.Nat.{_+_, _-_, _*_, _/_, _%_};
 ghost use lib.Dec.{eqb};
 ghost use Rattle.rules.specs.Bytes.{pick, over, six};
 ghost use Rattle.rules.specs.Stores.{stored, puts};
 ghost use Rattle.rules.specs.Image.{index};
 ghost use Rattle.rules.specs.Outcome.{out, left};
-ghost use Rattle.rules.specs.Transfer.{slotIn, fresh, linked, takeStores, takePuts, takeFor, takeSector};
-ghost use Rattle.taking.specs.Take.{follows, blockOf, planOf, takeBy, taken};
+ghost use Rattle.rules.specs.Transfer.{offFree, slotIn, fresh, linked, takePuts, takeFor, takeSector};
+ghost use Rattle.taking.specs.Take.{freeFault, follows, blockOf, planOf, longerStores, takeBy, taken};
+use cells::clear;
 use cells::get;
 use cells::get2;
 use cells::put;
 use cells::put2;
 use cells::put6;
 use directory::placed;
-use disk::Free;
 use disk::free_of;
 use disk::fresh_sector;
 use disk::index_of;
@@ -25,6 +26,21 @@ use disk::link_of;
 use disk::put_free;
 use rules::Lookup;
 
+// Where the fields of a block stand.
+const START: usize = 17;
+
+const SIZE: usize = 21;
+
+const POSITION: usize = 30;
+
+const NUMBER: usize = 32;
+
+const INDEX: usize = 34;
+
+const PLACE: usize = 47;
+
+const BUFFER: usize = 64;
+
 // What a block says of the file that it writes.
 struct Block {
     pub position: u16,
@@ -32,22 +48,74 @@ struct Block {
     pub size: u16,
 }
 
-// What taking a sector will do: may the former position be followed, is the first free a data sector, and the addresses afterwards.
+// What is known before a sector is taken: may the former position be followed, the free chain's refusal or 0, and the sector that
+// it would give.
 struct Plan {
     pub follows: bool,
-    pub right: bool,
-    pub next: u16,
-    pub last: u16,
+    pub fault: u8,
+    pub new: u16,
+}
+
+// A file with one sector more: the position that was its last, the sector taken, start and size with it.
+struct Longer {
+    pub former: u16,
+    pub new: u16,
     pub start: u16,
+    pub size: u16,
+}
+
+// Does the free chain give a sector? 0, or the number of the refusal.
+pub fn free_fault(image: &[u8], last: u8, per: u8) -> u8
+    ensures { λ r. ⌜ r ≡ freeFault (now (image .entry)) last per ⌝ }
+{
+    let free = free_of(image);
+    if free.count == 0 {
+        return 7;
+    }
+    let right = is_data(last, per, free.first);
+    if !right {
+        return 10;
+    }
+    0
+}
+
+// One less; 0 stays 0, a count that `free_fault` refuses before.
+fn one_less(n: u16) -> u16
+    ensures { λ r. ⌜ r ≡ n - 1 ⌝ }
+{
+    if n == 0 {
+        return 0;
+    }
+    n - 1
+}
+
+// The first sector off the free chain, which then begins at that sector's link.
+pub fn take_off(image: &mut [u8], per: u8)
+    ensures { λ _. ⌜ now (image .exit) ≡ stored (now (image .entry)) (offFree (now (image .entry)) per ∷ []) ⌝ }
+{
+    let free = free_of(image);
+    if free.count == 1 {
+        clear(image, 256 * 2 + 29, 6);
+        return;
+    }
+    let next = link_of(image, index_of(per, free.first));
+    put_free(image, next, free.last, one_less(free.count));
 }
 
 // The slot that the block's place names.
-pub fn slot_of(image: &[u8], table: &[u8], per: u8, f: u16) -> Lookup
-    ensures { λ r. ⌜ r ≡ slotIn (now (image .entry)) (now (table .entry)) per f ⌝ }
+pub fn slot_of(image: &[u8], table: &[u8], last: u8, per: u8, f: u16) -> Lookup
+    ensures { λ r. ⌜ r ≡ slotIn (now (image .entry)) (now (table .entry)) last per f ⌝ }
 {
-    let a = get2(table, f as usize + 47);
-    let d = get(table, f as usize + 49);
-    placed(image, per, a, d)
+    let track = get(table, f as usize + PLACE);
+    let sector = get(table, f as usize + PLACE + 1);
+    let displacement = get(table, f as usize + PLACE + 1 + 1);
+    placed(
+        image,
+        last,
+        per,
+        256 * track as u16 + sector as u16,
+        displacement,
+    )
 }
 
 // May a sector follow this position: none, or a data sector?
@@ -58,16 +126,6 @@ fn may_follow(last: u8, per: u8, position: u16) -> bool
         return true;
     }
     is_data(last, per, position)
-}
-
-// An address of the free chain after a sector was taken from it: 0,0 where that was the last.
-fn unless_last(count: u16, a: u16) -> u16
-    ensures { λ r. ⌜ r ≡ pick (eqb count 1) 0 a ⌝ }
-{
-    if count == 1 {
-        return 0;
-    }
-    a
 }
 
 // A file's start after its first sector was taken: that sector where it had none.
@@ -83,9 +141,9 @@ fn start_after(start: u16, new: u16) -> u16
 fn block_of(table: &[u8], f: u16) -> Block
     ensures { λ r. ⌜ r ≡ blockOf (now (table .entry)) f ⌝ }
 {
-    let position = get2(table, f as usize + 30);
-    let start = get2(table, f as usize + 17);
-    let size = get2(table, f as usize + 21);
+    let position = get2(table, f as usize + POSITION);
+    let start = get2(table, f as usize + START);
+    let size = get2(table, f as usize + SIZE);
     Block {
         position,
         start,
@@ -93,21 +151,16 @@ fn block_of(table: &[u8], f: u16) -> Block
     }
 }
 
-fn plan_of(image: &[u8], last: u8, per: u8, free: Free, block: Block) -> Plan
-    ensures { λ r. ⌜ r ≡ planOf (now (image .entry)) last per free block ⌝ }
+fn plan_of(image: &[u8], last: u8, per: u8, block: Block) -> Plan
+    ensures { λ r. ⌜ r ≡ planOf (now (image .entry)) last per block ⌝ }
 {
     let follows = may_follow(last, per, block.position);
-    let right = is_data(last, per, free.first);
-    let behind = link_of(image, index_of(per, free.first));
-    let next = unless_last(free.count, behind);
-    let end = unless_last(free.count, free.last);
-    let start = start_after(block.start, free.first);
+    let fault = free_fault(image, last, per);
+    let free = free_of(image);
     Plan {
         follows,
-        right,
-        next,
-        last: end,
-        start,
+        fault,
+        new: free.first,
     }
 }
 
@@ -136,35 +189,24 @@ fn put_chain(image: &mut [u8], slot: u32, start: u16, end: u16, size: u16)
 }
 
 // The image after a sector was taken: the free chain, the new sector, the former position's link, the slot.
-fn take_image(
-    image: &mut [u8],
-    per: u8,
-    slot: u32,
-    former: u16,
-    new: u16,
-    next: u16,
-    last: u16,
-    count: u16,
-    start: u16,
-    size: u16,
-)
-    ensures { λ _. ⌜ now (image .exit) ≡ stored (now (image .entry)) (takeStores per slot former new next last count start size) ⌝ }
+fn take_image(image: &mut [u8], per: u8, slot: u32, file: Longer)
+    ensures { λ _. ⌜ now (image .exit) ≡ stored (now (image .entry)) (longerStores (now (image .entry)) per slot file) ⌝ }
 {
-    put_free(image, next, last, count);
-    store_new(image, per, new, size);
-    link_former(image, per, former, new);
-    put_chain(image, slot, start, new, size);
+    take_off(image, per);
+    store_new(image, per, file.new, file.size);
+    link_former(image, per, file.former, file.new);
+    put_chain(image, slot, file.start, file.new, file.size);
 }
 
 // The block after a sector was taken.
-fn take_table(table: &mut [u8], f: u16, new: u16, start: u16, size: u16)
-    ensures { λ _. ⌜ now (table .exit) ≡ puts (now (table .entry)) f (takePuts new start size) ⌝ }
+fn take_table(table: &mut [u8], f: u16, file: Longer)
+    ensures { λ _. ⌜ now (table .exit) ≡ puts (now (table .entry)) f (takePuts (file .new) (file .start) (file .size)) ⌝ }
 {
-    put6(table, f as usize + 17, start, new, size);
-    fresh_sector(table, f as usize + 64, size);
-    put2(table, f as usize + 30, new);
-    put2(table, f as usize + 32, size);
-    put(table, f as usize + 34, 4);
+    put6(table, f as usize + START, file.start, file.new, file.size);
+    fresh_sector(table, f as usize + BUFFER, file.size);
+    put2(table, f as usize + POSITION, file.new);
+    put2(table, f as usize + NUMBER, file.size);
+    put(table, f as usize + INDEX, 4);
 }
 
 // The tests in their order, then the stores. The number of the refusal, or 0; neither is stored.
@@ -174,37 +216,29 @@ fn take_by(
     per: u8,
     f: u16,
     slot: u32,
-    free: Free,
     block: Block,
     plan: Plan,
 ) -> u8
-    ensures { λ r. ⌜ out r 0 (now (image .exit)) (now (table .exit)) ≡ left (now (image .entry)) (now (table .entry)) f (taken (takeBy per slot free block plan)) ⌝ }
+    ensures { λ r. ⌜ out r 0 (now (image .exit)) (now (table .exit)) ≡ left (now (image .entry)) (now (table .entry)) f (taken (takeBy (now (image .entry)) per slot block plan)) ⌝ }
 {
     if !plan.follows {
         return 10;
     }
-    if free.count == 0 {
-        return 7;
-    }
-    if !plan.right {
-        return 10;
+    if plan.fault != 0 {
+        return plan.fault;
     }
     if block.size == 65535 {
         return 10;
     }
-    take_image(
-        image,
-        per,
-        slot,
-        block.position,
-        free.first,
-        plan.next,
-        plan.last,
-        free.count - 1,
-        plan.start,
-        block.size + 1,
-    );
-    take_table(table, f, free.first, plan.start, block.size + 1);
+    let start = start_after(block.start, plan.new);
+    let file = Longer {
+        former: block.position,
+        new: plan.new,
+        start,
+        size: block.size + 1,
+    };
+    take_image(image, per, slot, file);
+    take_table(table, f, file);
     0
 }
 
@@ -212,17 +246,16 @@ fn take_by(
 fn take_for(image: &mut [u8], table: &mut [u8], last: u8, per: u8, f: u16, slot: u32) -> u8
     ensures { λ r. ⌜ out r 0 (now (image .exit)) (now (table .exit)) ≡ left (now (image .entry)) (now (table .entry)) f (taken (takeFor (now (image .entry)) (now (table .entry)) last per f slot)) ⌝ }
 {
-    let free = free_of(image);
     let block = block_of(table, f);
-    let plan = plan_of(image, last, per, free, block);
-    take_by(image, table, per, f, slot, free, block, plan)
+    let plan = plan_of(image, last, per, block);
+    take_by(image, table, per, f, slot, block, plan)
 }
 
 // A sector taken: every store of it. The number of the refusal, or 0; neither is stored.
 pub fn take_sector(image: &mut [u8], table: &mut [u8], last: u8, per: u8, f: u16) -> u8
     ensures { λ r. ⌜ out r 0 (now (image .exit)) (now (table .exit)) ≡ left (now (image .entry)) (now (table .entry)) f (taken (takeSector (now (image .entry)) (now (table .entry)) last per f)) ⌝ }
 {
-    let found = slot_of(image, table, per, f);
+    let found = slot_of(image, table, last, per, f);
     match found {
         Lookup::At(slot) => take_for(image, table, last, per, f, slot),
         Lookup::Missing => 5,

@@ -129,15 +129,15 @@ module _ (img tab : List ℕ) (M S f b : ℕ) {i : ℕ} (e : i ≡ indexIn tab f
 
 -- ---- close
 
-module _ (img tab : List ℕ) (S f : ℕ) {found : Lookup} (e : found ≡ slotIn img tab S f) where
+module _ (img tab : List ℕ) (M S f : ℕ) {found : Lookup} (e : found ≡ slotIn img tab M S f) where
   pub empty-at : {i t : List ℕ} {slot : ℕ} → found ≡ At slot → i ≡ stored img (mark slot) → t ≡ puts tab f (shut ++ put 1 (one 0) ∷ [])
-      → out 0 0 i t ≡ left img tab f (settled (closeEmpty img tab S f))
+      → out 0 0 i t ≡ left img tab f (settled (closeEmpty img tab M S f))
   empty-at h k d = rw (← e, h, k, d) refl
 
-  pub empty-missing : {r : ℕ} {t : List ℕ} → found ≡ Missing → r ≡ 5 → t ≡ over tab (f + 1) (one 5) → out r 0 img t ≡ left img tab f (settled (closeEmpty img tab S f))
+  pub empty-missing : {r : ℕ} {t : List ℕ} → found ≡ Missing → r ≡ 5 → t ≡ over tab (f + 1) (one 5) → out r 0 img t ≡ left img tab f (settled (closeEmpty img tab M S f))
   empty-missing h k d = rw (← e, h, k, d) refl
 
-  pub empty-broken : {r : ℕ} {t : List ℕ} → found ≡ Broken → r ≡ 5 → t ≡ over tab (f + 1) (one 5) → out r 0 img t ≡ left img tab f (settled (closeEmpty img tab S f))
+  pub empty-broken : {r : ℕ} {t : List ℕ} → found ≡ Broken → r ≡ 5 → t ≡ over tab (f + 1) (one 5) → out r 0 img t ≡ left img tab f (settled (closeEmpty img tab M S f))
   empty-broken h k d = rw (← e, h, k, d) refl
 
 module _ (img tab : List ℕ) (M S f a : ℕ) {v : Bool} (q : v ≡ isData M S a) where
@@ -149,7 +149,7 @@ module _ (img tab : List ℕ) (M S f a : ℕ) {v : Bool} (q : v ≡ isData M S a
   partial-done h l k d = rw (← q, h, ← l, k, d) refl
 
 module _ (img tab : List ℕ) (M S f : ℕ) {a : ℕ} (p : a ≡ positionIn tab f) where
-  pub closes-empty : {o : Out} → a ≡ 0 → o ≡ left img tab f (settled (closeEmpty img tab S f)) → o ≡ left img tab f (settled (closeWriting img tab M S f))
+  pub closes-empty : {o : Out} → a ≡ 0 → o ≡ left img tab f (settled (closeEmpty img tab M S f)) → o ≡ left img tab f (settled (closeWriting img tab M S f))
   unfolding closeWriting
   closes-empty h k = rw (← p, eq-eqb a 0 h) k
 

@@ -9,8 +9,8 @@ use Rattle.rules.specs.Block.{bufferField}
 use Rattle.rules.specs.Transfer.{slotIn, shut, mark}
 
 -- position 0,0: "place (5), the slot's first byte becomes 255"
-abbrev pub closeEmpty : List ℕ → List ℕ → ℕ → ℕ → Outcome
-closeEmpty img tab S f = onSlot (slotIn img tab S f) 5 5 (λ slot. done 0 (mark slot) shut)
+abbrev pub closeEmpty : List ℕ → List ℕ → ℕ → ℕ → ℕ → Outcome
+closeEmpty img tab M S f = onSlot (slotIn img tab M S f) 5 5 (λ slot. done 0 (mark slot) shut)
 
 -- "the buffer is stored as above (10)": at the position a
 abbrev pub closePartial : List ℕ → ℕ → ℕ → ℕ → ℕ → Outcome

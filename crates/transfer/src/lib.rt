@@ -24,6 +24,23 @@ use rules::Lookup;
 use taking::slot_of;
 use taking::take_sector;
 
+// Where the fields of a block stand.
+const ERROR: usize = 1;
+
+const ACTIVITY: usize = 2;
+
+const START: usize = 17;
+
+const POSITION: usize = 30;
+
+const NUMBER: usize = 32;
+
+const INDEX: usize = 34;
+
+const BUFFER: usize = 64;
+
+const DATA: usize = 68;
+
 // What reading gives: the byte, or the number of the refusal.
 pub enum Given {
     Byte(u8),
@@ -34,22 +51,22 @@ pub enum Given {
 fn next_to_read(table: &[u8], f: u16) -> u16
     ensures { λ r. ⌜ r ≡ nextToRead (now (table .entry)) f ⌝ }
 {
-    let position = get2(table, f as usize + 30);
+    let position = get2(table, f as usize + POSITION);
     if position == 0 {
-        return get2(table, f as usize + 17);
+        return get2(table, f as usize + START);
     }
-    get2(table, f as usize + 64)
+    get2(table, f as usize + BUFFER)
 }
 
 // The block after the sector k at the address a was loaded and its first byte read.
 fn load_table(image: &[u8], table: &mut [u8], f: u16, a: u16, k: u16)
     ensures { λ _. ⌜ now (table .exit) ≡ puts (now (table .entry)) f (loadPuts (now (image .entry)) a k ++ put 1 (one 0) ∷ []) ⌝ }
 {
-    put2(table, f as usize + 30, a);
-    copy(table, f as usize + 32, image, 256 * k as usize + 2, 2);
-    load_sector(table, f as usize + 64, image, k);
-    put(table, f as usize + 34, 5);
-    put(table, f as usize + 1, 0);
+    put2(table, f as usize + POSITION, a);
+    copy(table, f as usize + NUMBER, image, 256 * k as usize + 2, 2);
+    load_sector(table, f as usize + BUFFER, image, k);
+    put(table, f as usize + INDEX, 5);
+    put(table, f as usize + ERROR, 0);
 }
 
 // The sector at the address a loaded, and its first byte read.
@@ -73,8 +90,8 @@ fn next_byte(table: &mut [u8], f: u16, i: u8) -> u8
     ensures { λ r. ⌜ (r ≡ byteAt (now (table .entry)) (f + (bufferField + i))) × (now (table .exit) ≡ puts (now (table .entry)) f (put indexField (one ((i + 1) % 256)) ∷ put 1 (one 0) ∷ [])) ⌝ }
 {
     let next = get(table, f as usize + (64 + i as usize));
-    put(table, f as usize + 34, ((i as u16 + 1) % 256) as u8);
-    put(table, f as usize + 1, 0);
+    put(table, f as usize + INDEX, ((i as u16 + 1) % 256) as u8);
+    put(table, f as usize + ERROR, 0);
     next
 }
 
@@ -82,7 +99,7 @@ fn next_byte(table: &mut [u8], f: u16, i: u8) -> u8
 pub fn read(image: &[u8], table: &mut [u8], last: u8, per: u8, f: u16) -> Given
     ensures { λ r. ⌜ (out (numberOf r) (byteOf r) (now (image .entry)) (now (table .exit)) ≡ left (now (image .entry)) (now (table .entry)) f (settled (reading (now (image .entry)) (now (table .entry)) last per f))) × Proper r ⌝ }
 {
-    let i = get(table, f as usize + 34);
+    let i = get(table, f as usize + INDEX);
     if i == 0 {
         let a = next_to_read(table, f);
         return load_at(image, table, last, per, f, a);
@@ -95,8 +112,8 @@ fn send(table: &mut [u8], f: u16, i: u8, byte: u8)
     ensures { λ _. ⌜ now (table .exit) ≡ puts (now (table .entry)) f (sent i byte ++ put 1 (one 0) ∷ []) ⌝ }
 {
     put(table, f as usize + (64 + i as usize), byte);
-    put(table, f as usize + 34, ((i as u16 + 1) % 256) as u8);
-    put(table, f as usize + 1, 0);
+    put(table, f as usize + INDEX, ((i as u16 + 1) % 256) as u8);
+    put(table, f as usize + ERROR, 0);
 }
 
 // The first byte of a sector, which is taken for it.
@@ -116,7 +133,7 @@ fn store_full(image: &mut [u8], table: &[u8], per: u8, f: u16, a: u16, byte: u8)
     ensures { λ _. ⌜ now (image .exit) ≡ over (now (image .entry)) (256 * index per a + 4) (part (now (table .entry)) (f + (bufferField + 4)) 251 ++ one byte) ⌝ }
 {
     let k = index_of(per, a);
-    store_data(image, k, table, f as usize + 68);
+    store_data(image, k, table, f as usize + DATA);
     put(image, 256 * k as usize + 255, byte);
 }
 
@@ -124,7 +141,7 @@ fn store_full(image: &mut [u8], table: &[u8], per: u8, f: u16, a: u16, byte: u8)
 fn write_last(image: &mut [u8], table: &mut [u8], last: u8, per: u8, f: u16, byte: u8) -> u8
     ensures { λ r. ⌜ out r 0 (now (image .exit)) (now (table .exit)) ≡ left (now (image .entry)) (now (table .entry)) f (settled (fill (now (table .entry)) last per f byte)) ⌝ }
 {
-    let a = get2(table, f as usize + 30);
+    let a = get2(table, f as usize + POSITION);
     let right = is_data(last, per, a);
     if !right {
         return refuse(table, f, 10);
@@ -138,7 +155,7 @@ fn write_last(image: &mut [u8], table: &mut [u8], last: u8, per: u8, f: u16, byt
 pub fn write(image: &mut [u8], table: &mut [u8], last: u8, per: u8, f: u16, byte: u8) -> u8
     ensures { λ r. ⌜ out r 0 (now (image .exit)) (now (table .exit)) ≡ left (now (image .entry)) (now (table .entry)) f (settled (writing (now (image .entry)) (now (table .entry)) last per f byte)) ⌝ }
 {
-    let index = get(table, f as usize + 34);
+    let index = get(table, f as usize + INDEX);
     if index == 0 {
         return write_first(image, table, last, per, f, byte);
     }
@@ -153,8 +170,8 @@ pub fn write(image: &mut [u8], table: &mut [u8], last: u8, per: u8, f: u16, byte
 fn shut_block(table: &mut [u8], f: u16)
     ensures { λ _. ⌜ now (table .exit) ≡ puts (now (table .entry)) f (shut ++ put 1 (one 0) ∷ []) ⌝ }
 {
-    put(table, f as usize + 2, 0);
-    put(table, f as usize + 1, 0);
+    put(table, f as usize + ACTIVITY, 0);
+    put(table, f as usize + ERROR, 0);
 }
 
 // A slot marked as deleted.
@@ -166,10 +183,10 @@ fn mark_slot(image: &mut [u8], slot: u32)
 }
 
 // Close of a file that has no sector: its slot is given up.
-fn close_empty(image: &mut [u8], table: &mut [u8], per: u8, f: u16) -> u8
-    ensures { λ r. ⌜ out r 0 (now (image .exit)) (now (table .exit)) ≡ left (now (image .entry)) (now (table .entry)) f (settled (closeEmpty (now (image .entry)) (now (table .entry)) per f)) ⌝ }
+fn close_empty(image: &mut [u8], table: &mut [u8], last: u8, per: u8, f: u16) -> u8
+    ensures { λ r. ⌜ out r 0 (now (image .exit)) (now (table .exit)) ≡ left (now (image .entry)) (now (table .entry)) f (settled (closeEmpty (now (image .entry)) (now (table .entry)) last per f)) ⌝ }
 {
-    let found = slot_of(image, table, per, f);
+    let found = slot_of(image, table, last, per, f);
     match found {
         Lookup::At(slot) => {
             mark_slot(image, slot);
@@ -190,7 +207,7 @@ fn close_partial(image: &mut [u8], table: &mut [u8], last: u8, per: u8, f: u16, 
         return refuse(table, f, 10);
     }
     let k = index_of(per, a);
-    store_data(image, k, table, f as usize + 68);
+    store_data(image, k, table, f as usize + DATA);
     shut_block(table, f);
     0
 }
@@ -199,11 +216,11 @@ fn close_partial(image: &mut [u8], table: &mut [u8], last: u8, per: u8, f: u16, 
 fn close_writing(image: &mut [u8], table: &mut [u8], last: u8, per: u8, f: u16) -> u8
     ensures { λ r. ⌜ out r 0 (now (image .exit)) (now (table .exit)) ≡ left (now (image .entry)) (now (table .entry)) f (settled (closeWriting (now (image .entry)) (now (table .entry)) last per f)) ⌝ }
 {
-    let a = get2(table, f as usize + 30);
+    let a = get2(table, f as usize + POSITION);
     if a == 0 {
-        return close_empty(image, table, per, f);
+        return close_empty(image, table, last, per, f);
     }
-    let filled = get(table, f as usize + 34);
+    let filled = get(table, f as usize + INDEX);
     if filled != 0 {
         return close_partial(image, table, last, per, f, a);
     }
@@ -215,7 +232,7 @@ fn close_writing(image: &mut [u8], table: &mut [u8], last: u8, per: u8, f: u16) 
 pub fn close(image: &mut [u8], table: &mut [u8], last: u8, per: u8, f: u16) -> u8
     ensures { λ r. ⌜ out r 0 (now (image .exit)) (now (table .exit)) ≡ left (now (image .entry)) (now (table .entry)) f (settled (close (now (image .entry)) (now (table .entry)) last per f)) ⌝ }
 {
-    let activity = get(table, f as usize + 2);
+    let activity = get(table, f as usize + ACTIVITY);
     if activity == 2 {
         return close_writing(image, table, last, per, f);
     }

@@ -1,5 +1,6 @@
 //! Damaged diskettes, random control blocks, and calls aimed at states that a host alone would hardly reach.
 
+use crate::image::is_live;
 use crate::pair::Checked;
 use crate::scene::{Scene, SLOT_ATTRIBUTES};
 use flex::{
@@ -49,19 +50,23 @@ impl Scene<'_> {
         Ok(())
     }
 
+    /// A link of the directory, or of a sector of track 0 that it may not have.
     fn damage_directory(&mut self) {
-        let sector = if self.random.chance(50) { 5 } else { self.random.between(5, self.per) };
+        let on_track_0 = (0, self.random.between(5, self.per) as u8);
+        let sector = if self.random.chance(70) { self.directory_sector() } else { on_track_0 };
         let next = self.random.between(5, self.per) as u8;
-        let address = match self.random.below(8) {
+        let address = match self.random.below(10) {
             0 => (0, 4),
             1 => (0, self.per as u8 + 1),
             2 => (1, 5),
             3 => (0, 5),
             4 => (0, 0),
             5 => self.any_address(),
+            6 => self.data_sector(),
+            7 => self.directory_sector(),
             _ => (0, next),
         };
-        self.set_address((sector - 1) * 256, address);
+        self.set_address(diskettes::offset(self.per, sector.0 as usize, sector.1 as usize), address);
     }
 
     fn damage_slot(&mut self) {
@@ -179,7 +184,7 @@ impl Scene<'_> {
 
     fn damage_place(&mut self, fcb: usize) {
         let slot = self.any_slot();
-        let [track, sector, displacement] = Scene::place(slot);
+        let [track, sector, displacement] = self.place(slot);
         let place = match self.random.below(8) {
             0 => [0, 0, 0],
             1 => [track, sector, displacement.wrapping_add(1)],
@@ -203,12 +208,13 @@ impl Scene<'_> {
     pub fn aim(&mut self) -> Checked<()> {
         let fcb = self.random.below(BLOCKS);
         self.set_block(fcb, DRIVE, &[0]);
-        match self.random.below(8) {
+        match self.random.below(10) {
             0..=1 => self.aim_take(fcb),
             2 => self.aim_load(fcb),
             3 => self.aim_index(fcb),
             4 => self.aim_close(fcb),
             5 => self.aim_next_slot(fcb),
+            6..=7 => self.aim_growth(fcb),
             _ => self.aim_file(fcb),
         }
     }
@@ -216,6 +222,7 @@ impl Scene<'_> {
     /// Function 0 in writing at index 0.
     fn aim_take(&mut self, fcb: usize) -> Checked<()> {
         let slot = self.any_slot();
+        let place = self.place(slot);
         let position = if self.random.chance(30) { self.information(29) } else { self.any_address() };
         let start = self.any_address();
         let size = self.any_count();
@@ -227,7 +234,7 @@ impl Scene<'_> {
             let first = self.data_sector();
             self.set_address(541, first);
         }
-        self.set_block(fcb, PLACE, &Scene::place(slot));
+        self.set_block(fcb, PLACE, &place);
         if self.random.chance(20) {
             self.damage_place(fcb);
         }
@@ -288,16 +295,49 @@ impl Scene<'_> {
         Ok(())
     }
 
+    /// Open for write where no slot is left, or one at most, with any free chain.
+    fn aim_growth(&mut self, fcb: usize) -> Checked<()> {
+        self.occupy_slots();
+        if self.random.chance(60) {
+            let first = if self.random.chance(60) { self.any_address() } else { self.directory_sector() };
+            self.set_address(541, first);
+        }
+        if self.random.chance(60) {
+            let count = self.any_count();
+            self.set_word(545, count);
+        }
+        let idle = self.random.one_of(&[0, 0, 16]);
+        let name = if self.random.chance(70) { Scene::numbered_name(999) } else { self.any_name() };
+        self.set_block(fcb, ACTIVITY, &[idle]);
+        self.set_block(fcb, NAME, name.bytes());
+        if self.ask(fcb, OPEN_WRITE)? == 0 {
+            self.transfer(fcb, 2)?;
+        }
+        Ok(())
+    }
+
+    /// Every slot of the directory becomes live, but for one now and then.
+    fn occupy_slots(&mut self) {
+        let left = if self.random.chance(20) { self.any_slot() } else { 0 };
+        for (i, slot) in self.slots().into_iter().enumerate() {
+            if slot != left && !is_live(self.pair.image(), slot) {
+                self.pair.poke_image(slot, &[0; 24]);
+                self.pair.poke_image(slot, Scene::numbered_name(i).bytes());
+            }
+        }
+    }
+
     /// Delete, rename or open for read of a slot made for it, with counts at the limit, and another block at its place.
     fn aim_file(&mut self, fcb: usize) -> Checked<()> {
         let slot = self.findable_slot();
+        let place = self.place(slot);
         if self.random.chance(50) {
             self.aim_counts(slot);
         }
         let other = self.random.below(BLOCKS);
         if self.random.chance(60) {
             let activity = self.random.one_of(&ACTIVITIES);
-            self.set_block(other, PLACE, &Scene::place(slot));
+            self.set_block(other, PLACE, &place);
             self.set_block(other, ACTIVITY, &[activity]);
         }
         let idle = self.random.one_of(&[0, 0, 16]);
@@ -310,13 +350,14 @@ impl Scene<'_> {
         Ok(())
     }
 
-    /// A slot that a search finds: a live one, or one invented in one of the first four places.
+    /// A slot that a search finds: a live one, or one invented in one of the first four places of a directory sector.
     fn findable_slot(&mut self) -> usize {
         let live = self.live_slots();
         if !live.is_empty() && self.random.chance(40) {
             return self.random.one_of(&live);
         }
-        let slot = 4 * 256 + 16 + 24 * self.random.below(4);
+        let (track, sector) = if self.random.chance(80) { (0, 5) } else { self.directory_sector() };
+        let slot = diskettes::offset(self.per, track as usize, sector as usize) + 16 + 24 * self.random.below(4);
         self.invent_slot(slot);
         let name = Scene::numbered_name(self.random.below(1000));
         if self.random.chance(50) {

@@ -8,11 +8,15 @@
 #![forbid(unsafe_code)]
 
 mod damage;
+mod formatted;
+mod growth;
+mod image;
 mod lent;
 mod pair;
 mod random;
 mod scene;
 mod seen;
+mod surveyed;
 mod sweep;
 mod tally;
 mod wanted;
@@ -220,7 +224,7 @@ fn step(scene: &mut Scene, mood: Mood) -> Checked<()> {
         scene.heal_shape();
     }
     if scene.random.chance(damage_image) {
-        scene.heal_directory();
+        scene.heal_broken_directory();
     }
     if scene.random.chance(aim) {
         return scene.aim();

@@ -1,8 +1,10 @@
 //! The two services side by side, each on its own copy of both buffers. Every call is made on both; the answers and all
 //! bytes of both buffers must then be equal, margins included.
 
+use crate::formatted::Formatted;
 use crate::lent::Lent;
-use crate::seen::{Formatted, Seen, Surveyed};
+use crate::seen::Seen;
+use crate::surveyed::Surveyed;
 use crate::tally::{row_of_call, Tally, CENSUS, ERROR_TEXT, EXTENSION, FORMAT, PRESET};
 use crate::wanted::Wanted;
 use flex::Held;

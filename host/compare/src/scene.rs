@@ -1,12 +1,13 @@
 //! One diskette with its control blocks, and the small steps that the random runs are made of. Those of a host are the
 //! wrapper's, [`Steps`]; here it is said what they do to the two services.
 
+use crate::image::{is_live, Directory, Ends, Shape};
 use crate::pair::{Checked, Mismatch, Pair};
 use crate::random::Random;
 use crate::wanted::Wanted;
 use flex::{Name, Steps, ACTIVITY, ATTRIBUTES, BLOCK, BLOCKS, FUNCTION, INDEX, NAME, NEXT_BYTE};
 
-pub type Address = (u8, u8);
+pub use crate::image::Address;
 
 /// Names that many files share, so that searches hit, and some of them differ in case or length alone.
 const NAMES: [&[u8; 11]; 10] = [
@@ -100,33 +101,40 @@ impl<'a> Scene<'a> {
         }
     }
 
-    /// Where a slot of track 0 begins: often a live one, mostly one that the directory reaches.
+    /// Where a slot begins: often a live one, mostly one that the directory reaches.
     pub fn any_slot(&mut self) -> usize {
         let live = self.live_slots();
         if !live.is_empty() && self.random.chance(60) {
             return self.random.one_of(&live);
         }
-        let sector = if self.random.chance(90) {
-            let i = self.random.below(self.directory.len());
-            self.directory[i]
-        } else {
-            self.random.between(5, self.per)
-        };
+        let slots = self.slots();
+        if self.random.chance(90) {
+            return self.random.one_of(&slots);
+        }
+        let sector = self.random.between(5, self.per);
         (sector - 1) * 256 + 16 + 24 * self.random.below(10)
     }
 
-    /// The slots of the directory as it was made.
+    fn shape(&self) -> Shape {
+        Shape { last: self.last as u8, per: self.per as u8 }
+    }
+
+    /// The directory as it is now, grown or damaged, of a diskette with the shape that it was made with.
+    pub fn directory_now(&self) -> Directory {
+        Directory::of(self.pair.image(), self.shape())
+    }
+
+    /// The slots of the directory as it is now.
     pub fn slots(&self) -> Vec<usize> {
-        let sectors = self.directory.iter();
-        sectors.flat_map(|&sector| (0..10).map(move |i| (sector - 1) * 256 + 16 + 24 * i)).collect()
+        self.directory_now().slots
     }
 
     pub fn live_slots(&self) -> Vec<usize> {
-        self.slots().into_iter().filter(|&slot| (1..128).contains(&self.pair.image()[slot])).collect()
+        self.slots().into_iter().filter(|&slot| is_live(self.pair.image(), slot)).collect()
     }
 
-    pub fn place(slot: usize) -> [u8; 3] {
-        [0, (slot / 256 + 1) as u8, (slot % 256) as u8]
+    pub fn place(&self, slot: usize) -> [u8; 3] {
+        self.shape().place(slot)
     }
 
     pub fn information(&self, at: usize) -> Address {
@@ -137,9 +145,19 @@ impl<'a> Scene<'a> {
         (self.random.between(1, self.last) as u8, self.random.between(1, self.per) as u8)
     }
 
+    /// A sector of the directory as it is now, often the last.
+    pub fn directory_sector(&mut self) -> Address {
+        let directory = self.directory_now();
+        if self.random.chance(50) {
+            directory.last()
+        } else {
+            self.random.one_of(&directory.sectors)
+        }
+    }
+
     /// An address, good or bad.
     pub fn any_address(&mut self) -> Address {
-        match self.random.below(13) {
+        match self.random.below(14) {
             0 => (0, 0),
             1 => (0, 1),
             2 => (0, 5),
@@ -150,6 +168,7 @@ impl<'a> Scene<'a> {
             7 => (self.random.byte(), self.random.byte()),
             8 => self.information(29),
             9 => self.information(31),
+            10 => self.directory_sector(),
             _ => self.data_sector(),
         }
     }
@@ -184,7 +203,14 @@ impl<'a> Scene<'a> {
         self.pair.poke_image(550, &[self.last as u8, self.per as u8]);
     }
 
-    /// The directory's links again as it was made.
+    /// A directory that is not right gets its links again as it was made.
+    pub fn heal_broken_directory(&mut self) {
+        if self.directory_now().ends != Ends::Right {
+            self.heal_directory();
+        }
+    }
+
+    /// The directory's links again as it was made: what it has taken since is lost.
     pub fn heal_directory(&mut self) {
         for i in 0..self.directory.len() {
             let next = self.directory.get(i + 1).copied().unwrap_or(0);

@@ -1,16 +1,13 @@
 //! Situations: what the test looks at before and after a call to know that the places that are easy to get wrong were reached.
-//! This says nothing about right or wrong, only about what has been tried.
+//! This says nothing about right or wrong, only about what has been tried. Those of the census and of format are in surveyed.rs
+//! and formatted.rs.
 
+use crate::image::{address, is_live, word, Address, Directory, Ends, Shape, NONE};
 use crate::scene::SLOT_ATTRIBUTES;
-use crate::wanted::{Wanted, LABEL};
 use flex::{ACTIVITY, ATTRIBUTE_READ, BUFFER, FUNCTION, INDEX, NAME, NEW_NAME, PLACE, POSITION, SIZE, START};
-
-type Address = (u8, u8);
 
 /// Where opening a file puts its 255: inside the new name.
 const COMPRESSION: usize = 59;
-
-const NONE: Address = (0, 0);
 
 /// Looked at before an FMS call, on a table and an image of the right form.
 pub struct Seen {
@@ -31,24 +28,26 @@ pub struct Seen {
     last: Address,
     count: u16,
     link_of_first: Address,
-    /// The slot that the block's name names, by a plain search of track 0.
-    named: Option<Slot>,
-    /// The new name equals the name.
-    own_name: bool,
-    /// Some live slot of track 0 is read protected.
+    directory: Directory,
+    names: Names,
+    /// Some live slot is read protected.
     any_secret: bool,
-    /// A search comes to a never-used slot before a live one of the block's name; of its new name.
-    behind_hole: bool,
-    new_behind_hole: bool,
-    /// The first byte of each slot of track 0, by its place.
+    /// The first byte of each slot, by its place.
     firsts: Vec<([u8; 3], u8)>,
+    /// First free is a sector that the file of some live slot begins with.
+    first_is_a_files: bool,
     image_len: usize,
 }
 
-#[derive(Clone, Copy, PartialEq)]
-struct Shape {
-    last: u8,
-    per: u8,
+/// The block's name and its new name, and where they are in the directory.
+struct Names {
+    /// The slot that the name names, by a plain search.
+    slot: Option<Slot>,
+    /// The new name equals the name.
+    are_equal: bool,
+    /// A search comes to a never-used slot before a live one of the name; of the new name.
+    behind_hole: bool,
+    new_behind_hole: bool,
 }
 
 struct Slot {
@@ -66,61 +65,31 @@ pub struct After {
     place: [u8; 3],
     /// The activities of the other blocks that have the place of the block, or of the slot that its name named.
     others: Vec<u8>,
+    /// Some other block writes, whatever its place is.
+    another_writes: bool,
 }
 
-fn address(bytes: &[u8], at: usize) -> Address {
-    (bytes[at], bytes[at + 1])
-}
+impl After {
+    /// An open for write that was accepted and for which the directory took a sector.
+    fn grew(&self) -> bool {
+        self.answer == 0 && self.before.crowds()
+    }
 
-fn word(bytes: &[u8], at: usize) -> u16 {
-    u16::from_be_bytes([bytes[at], bytes[at + 1]])
+    /// This function was accepted, and the slot is in a sector that the directory had taken before.
+    fn is_in_taken(&self, code: u8) -> bool {
+        let slot = self.before.names.slot.as_ref().map_or(self.place, |slot| slot.place);
+        self.before.code == code && self.answer == 0 && slot[0] != 0
+    }
+
+    /// This function was refused for a file in use whose slot is in a sector that the directory had taken.
+    fn is_in_use_in_taken(&self, code: u8) -> bool {
+        let is_taken = self.before.names.slot.as_ref().map_or(false, |slot| slot.place[0] != 0);
+        self.before.code == code && self.answer == 2 && is_taken
+    }
 }
 
 fn triple(bytes: &[u8], at: usize) -> [u8; 3] {
     [bytes[at], bytes[at + 1], bytes[at + 2]]
-}
-
-impl Shape {
-    fn of(image: &[u8]) -> Option<Shape> {
-        let shape = Shape { last: *image.get(550)?, per: *image.get(551)? };
-        let right = (1..=79).contains(&shape.last)
-            && (5..=36).contains(&shape.per)
-            && image.len() == (shape.last as usize + 1) * shape.per as usize * 256;
-        Some(shape).filter(|_| right)
-    }
-
-    fn is_data(&self, (track, sector): Address) -> bool {
-        (1..=self.last).contains(&track) && (1..=self.per).contains(&sector)
-    }
-
-    fn offset(&self, (track, sector): Address) -> usize {
-        (track as usize * self.per as usize + sector as usize - 1) * 256
-    }
-
-    /// Where the slots of track 0 begin, linked or not.
-    fn slots(&self) -> impl Iterator<Item = usize> {
-        (4..self.per as usize).flat_map(slots_of)
-    }
-
-    /// Where they begin in the order in which a search comes to them: by links from 0,5 on, as far as these are right.
-    fn in_order(&self, image: &[u8]) -> Vec<usize> {
-        let mut sectors = vec![4];
-        while sectors.len() < self.per as usize - 4 {
-            match address(image, sectors[sectors.len() - 1] * 256) {
-                (0, sector) if (5..=self.per).contains(&sector) => sectors.push(sector as usize - 1),
-                _ => break,
-            }
-        }
-        sectors.into_iter().flat_map(slots_of).collect()
-    }
-}
-
-fn slots_of(sector: usize) -> impl Iterator<Item = usize> {
-    (0..10).map(move |i| sector * 256 + 16 + 24 * i)
-}
-
-fn place(slot: usize) -> [u8; 3] {
-    [0, (slot / 256 + 1) as u8, (slot % 256) as u8]
 }
 
 impl Seen {
@@ -133,8 +102,10 @@ impl Seen {
         let shape = Shape::of(image);
         let free = |at: usize| if shape.is_some() { address(image, 512 + at) } else { NONE };
         let first = free(29);
-        let count = free(33);
         let is_data = shape.map_or(false, |shape| shape.is_data(first));
+        let directory = shape.map_or_else(Directory::none, |shape| Directory::of(image, shape));
+        let live: Vec<usize> = directory.slots.iter().copied().filter(|&slot| is_live(image, slot)).collect();
+        let opens_for_write = block[FUNCTION] == 2;
         Some(Seen {
             code: block[FUNCTION],
             activity: block[ACTIVITY],
@@ -149,35 +120,28 @@ impl Seen {
             compression: block[COMPRESSION],
             first,
             last: free(31),
-            count: u16::from_be_bytes([count.0, count.1]),
+            count: shape.map_or(0, |_| word(image, 512 + 33)),
             link_of_first: shape.filter(|_| is_data).map_or(NONE, |shape| address(image, shape.offset(first))),
-            named: shape
-                .filter(|_| [1, 12, 13].contains(&block[FUNCTION]))
-                .and_then(|shape| named(image, shape, &block[NAME..][..11])),
-            own_name: block[NAME..][..11] == block[NEW_NAME..][..11],
-            any_secret: shape.map_or(false, |shape| {
-                shape
-                    .slots()
-                    .any(|slot| (1..128).contains(&image[slot]) && image[slot + SLOT_ATTRIBUTES] & ATTRIBUTE_READ != 0)
-            }),
-            behind_hole: shape.map_or(false, |shape| behind_hole(image, shape, &block[NAME..][..11])),
-            new_behind_hole: shape.map_or(false, |shape| behind_hole(image, shape, &block[NEW_NAME..][..11])),
-            firsts: shape
-                .filter(|_| block[FUNCTION] == 2)
-                .map_or(Vec::new(), |shape| shape.slots().map(|slot| (place(slot), image[slot])).collect()),
+            names: Names::of(image, shape, &directory, block),
+            any_secret: live.iter().any(|&slot| image[slot + SLOT_ATTRIBUTES] & ATTRIBUTE_READ != 0),
+            firsts: shape.filter(|_| opens_for_write).map_or(Vec::new(), |shape| firsts(image, shape, &directory)),
+            first_is_a_files: opens_for_write && live.iter().any(|&slot| address(image, slot + 13) == first),
+            directory,
             image_len: image.len(),
         })
     }
 
     pub fn after(self, answer: u32, table: &[u8]) -> After {
         let own = triple(table, self.f + PLACE);
-        let place = self.named.as_ref().map_or(own, |slot| slot.place);
+        let place = self.names.slot.as_ref().map_or(own, |slot| slot.place);
         let others = (0..flex::BLOCKS)
             .map(|i| i * flex::BLOCK)
             .filter(|&f| f != self.f && triple(table, f + PLACE) == place)
             .map(|f| table[f + ACTIVITY])
             .collect();
-        After { before: self, answer, place: own, others }
+        let writes = |f: usize| f != self.f && table[f + ACTIVITY] == 2;
+        let another_writes = (0..flex::BLOCKS).any(|i| writes(i * flex::BLOCK));
+        After { before: self, answer, place: own, others, another_writes }
     }
 
     fn is(&self, code: u8, activity: u8) -> bool {
@@ -204,17 +168,17 @@ impl Seen {
 
     /// An open for read by the name of such a slot.
     fn opens(&self, met: impl Fn(&Slot) -> bool) -> bool {
-        self.code == 1 && self.named.as_ref().map_or(false, met)
+        self.code == 1 && self.names.slot.as_ref().map_or(false, met)
     }
 
     /// A delete.
     fn deletes(&self, met: impl Fn(&Slot) -> bool) -> bool {
-        self.code == 12 && self.named.as_ref().map_or(false, met)
+        self.code == 12 && self.names.slot.as_ref().map_or(false, met)
     }
 
     /// A rename.
     fn renames(&self, met: impl Fn(&Slot) -> bool) -> bool {
-        self.code == 13 && self.named.as_ref().map_or(false, met)
+        self.code == 13 && self.names.slot.as_ref().map_or(false, met)
     }
 
     /// The first byte of the slot at this place.
@@ -222,15 +186,51 @@ impl Seen {
         self.firsts.iter().find(|row| row.0 == place).map(|row| row.1)
     }
 
+    /// An open for write that finds no slot left in a right directory.
+    fn crowds(&self) -> bool {
+        self.code == 2
+            && [0, 16].contains(&self.activity)
+            && self.directory.ends == Ends::Right
+            && !self.directory.has_room
+    }
+
+    /// First free is one of the directory's sectors, but not its last.
+    fn first_is_inside_directory(&self) -> bool {
+        self.directory.sectors.contains(&self.first) && self.directory.last() != self.first
+    }
+
+    /// The block's place is in a sector that the directory has taken.
+    fn is_at_taken(&self) -> bool {
+        self.place[0] != 0 && self.directory.sectors.contains(&(self.place[0], self.place[1]))
+    }
+
+    fn is_slot(&self, place: [u8; 3]) -> bool {
+        let at = (place[0], place[1]);
+        self.directory.sectors.contains(&at) && (16..=232).contains(&place[2]) && (place[2] - 16) % 24 == 0
+    }
+
     fn summed(&self, slot: &Slot) -> u32 {
         self.count as u32 + slot.size as u32
     }
 }
 
-fn named(image: &[u8], shape: Shape, name: &[u8]) -> Option<Slot> {
-    let slot = shape.slots().find(|&slot| image[slot..slot + 11] == *name)?;
+impl Names {
+    fn of(image: &[u8], shape: Option<Shape>, directory: &Directory, block: &[u8]) -> Names {
+        let (name, new_name) = (&block[NAME..][..11], &block[NEW_NAME..][..11]);
+        let searches = [1, 12, 13].contains(&block[FUNCTION]);
+        Names {
+            slot: shape.filter(|_| searches).and_then(|shape| named(image, shape, directory, name)),
+            are_equal: name == new_name,
+            behind_hole: behind_hole(image, directory, name),
+            new_behind_hole: behind_hole(image, directory, new_name),
+        }
+    }
+}
+
+fn named(image: &[u8], shape: Shape, directory: &Directory, name: &[u8]) -> Option<Slot> {
+    let slot = directory.slots.iter().copied().find(|&slot| image[slot..slot + 11] == *name)?;
     Some(Slot {
-        place: place(slot),
+        place: shape.place(slot),
         attributes: image[slot + SLOT_ATTRIBUTES],
         start: address(image, slot + 13),
         end: address(image, slot + 15),
@@ -239,9 +239,14 @@ fn named(image: &[u8], shape: Shape, name: &[u8]) -> Option<Slot> {
 }
 
 /// Does a search come to a never-used slot before a live one of this name?
-fn behind_hole(image: &[u8], shape: Shape, name: &[u8]) -> bool {
-    let mut behind = shape.in_order(image).into_iter().skip_while(|&slot| image[slot] != 0);
+fn behind_hole(image: &[u8], directory: &Directory, name: &[u8]) -> bool {
+    let mut behind = directory.slots.iter().copied().skip_while(|&slot| image[slot] != 0);
     (1..128).contains(&name[0]) && behind.any(|slot| image[slot..slot + 11] == *name)
+}
+
+/// The first byte of each slot, by its place.
+fn firsts(image: &[u8], shape: Shape, directory: &Directory) -> Vec<([u8; 3], u8)> {
+    directory.slots.iter().map(|&slot| (shape.place(slot), image[slot])).collect()
 }
 
 type Met = fn(&After) -> bool;
@@ -301,7 +306,8 @@ pub const CALL_SITUATIONS: &[(&str, Met)] = &[
     }),
     ("write: place refused before position", |a| a.before.takes() && a.answer == 5 && !a.before.position_fits()),
     ("write: no place asked at an index of 1 to 254", |a| {
-        a.before.is(0, 2) && a.answer == 0 && (1..255).contains(&a.before.index) && a.before.place[0] != 0
+        let is_slot = a.before.is_slot(a.before.place);
+        a.before.is(0, 2) && a.answer == 0 && (1..255).contains(&a.before.index) && !is_slot
     }),
     ("write: index 1 to 3", |a| a.before.is(0, 2) && a.answer == 0 && (1..4).contains(&a.before.index)),
     ("write: index 254", |a| a.before.is(0, 2) && a.answer == 0 && a.before.index == 254),
@@ -311,6 +317,12 @@ pub const CALL_SITUATIONS: &[(&str, Met)] = &[
         a.before.is(0, 2) && a.answer == 10 && a.before.index == 255 && a.before.position == NONE
     }),
     ("write: two blocks write at one place", |a| a.before.takes() && a.answer == 0 && a.others.contains(&2)),
+    ("write: the slot is in a sector that the directory has taken", |a| {
+        a.before.takes() && a.answer == 0 && a.before.is_at_taken()
+    }),
+    ("write: the sector taken is one of the directory's", |a| {
+        a.before.takes() && a.answer == 0 && a.before.directory.sectors.contains(&a.before.first)
+    }),
     // function 0, reading
     ("read: start loaded", |a| a.before.loads() && a.answer == 0 && a.before.position == NONE),
     ("read: link loaded", |a| a.before.loads() && a.answer == 0 && a.before.position != NONE),
@@ -333,7 +345,9 @@ pub const CALL_SITUATIONS: &[(&str, Met)] = &[
     ("open read: another block reads", |a| a.before.code == 1 && a.answer == 0 && a.others.contains(&1)),
     ("open read: a closed block has the place", |a| a.before.code == 1 && a.answer == 0 && a.others.contains(&0)),
     ("open read: a directory block has the place", |a| a.before.code == 1 && a.answer == 0 && a.others.contains(&16)),
-    ("open read: a name behind a never-used slot", |a| a.before.code == 1 && a.answer == 0 && a.before.behind_hole),
+    ("open read: a name behind a never-used slot", |a| {
+        a.before.code == 1 && a.answer == 0 && a.before.names.behind_hole
+    }),
     ("open read: 17 by attribute 32 alone", |a| a.answer == 17 && a.before.opens(|slot| slot.attributes == 32)),
     ("open read: 17 with delete protection", |a| a.answer == 17 && a.before.opens(|slot| slot.attributes == 96)),
     ("open read: 17 with write protection", |a| a.answer == 17 && a.before.opens(|slot| slot.attributes == 160)),
@@ -343,16 +357,16 @@ pub const CALL_SITUATIONS: &[(&str, Met)] = &[
         a.before.code == 1 && a.answer == 17 && a.others.contains(&2)
     }),
     ("open read: 4 where another file is read protected", |a| {
-        a.before.code == 1 && a.answer == 4 && a.before.any_secret && a.before.named.is_none()
+        a.before.code == 1 && a.answer == 4 && a.before.any_secret && a.before.names.slot.is_none()
     }),
     ("open read: 17 from a directory block", |a| a.before.is(1, 16) && a.answer == 17),
-    ("open read: 17 behind a never-used slot", |a| a.before.code == 1 && a.answer == 17 && a.before.behind_hole),
+    ("open read: 17 behind a never-used slot", |a| a.before.code == 1 && a.answer == 17 && a.before.names.behind_hole),
     ("open read: all attributes but 32 do not matter", |a| {
         a.answer == 0 && a.before.opens(|slot| slot.attributes == 223)
     }),
     ("open read: attribute 16 does not matter", |a| a.answer == 0 && a.before.opens(|slot| slot.attributes == 16)),
     ("open write: 3 for a name behind a never-used slot", |a| {
-        a.before.code == 2 && a.answer == 3 && a.before.behind_hole
+        a.before.code == 2 && a.answer == 3 && a.before.names.behind_hole
     }),
     ("open read: from a directory block", |a| a.before.is(1, 16) && a.answer == 0),
     ("open write: from a directory block", |a| a.before.is(2, 16) && a.answer == 0),
@@ -362,9 +376,107 @@ pub const CALL_SITUATIONS: &[(&str, Met)] = &[
     ("open write: a never-used slot", |a| {
         a.before.code == 2 && a.answer == 0 && a.before.first_byte(a.place) == Some(0)
     }),
-    ("open write: a slot of a later directory sector", |a| a.before.code == 2 && a.answer == 0 && a.place[1] != 5),
+    ("open write: a slot of a later directory sector", |a| {
+        a.before.code == 2 && a.answer == 0 && a.place[..2] != [0, 5]
+    }),
     ("open write: a slot that another block still writes", |a| {
         a.before.code == 2 && a.answer == 0 && a.others.contains(&2)
+    }),
+    ("open write: a deleted slot in a sector that the directory has taken", |a| {
+        a.is_in_taken(2) && a.before.first_byte(a.place).map_or(false, |byte| byte >= 128)
+    }),
+    ("open write: a never-used slot in a sector that the directory has taken", |a| {
+        a.is_in_taken(2) && a.before.first_byte(a.place) == Some(0)
+    }),
+    // 2, where no slot is left
+    ("growth: for the first time", |a| a.grew() && a.before.directory.taken() == 0),
+    ("growth: for the second time", |a| a.grew() && a.before.directory.taken() == 1),
+    ("growth: for the third time or later", |a| a.grew() && a.before.directory.taken() > 1),
+    ("growth: from a directory block", |a| a.grew() && a.before.activity == 16),
+    ("growth: while another block writes", |a| a.grew() && a.another_writes),
+    ("growth: behind 0,5 alone", |a| a.grew() && a.before.directory.sectors.len() == 1),
+    ("growth: behind a later sector of track 0", |a| {
+        a.grew() && a.before.directory.last().0 == 0 && a.before.directory.sectors.len() > 1
+    }),
+    ("growth: behind a sector of track 0 that follows a data sector", |a| {
+        a.grew() && a.before.directory.last().0 == 0 && a.before.directory.taken() > 0
+    }),
+    ("growth: with the last free sector", |a| a.grew() && a.before.count == 1),
+    ("growth: with the last free sector though it has a link", |a| {
+        a.grew() && a.before.count == 1 && a.before.link_of_first != NONE
+    }),
+    ("growth: by a sector whose link 0,0 comes too early", |a| {
+        a.grew() && a.before.count > 1 && a.before.link_of_first == NONE
+    }),
+    ("growth: by a sector whose link is no data sector", |a| {
+        let link = a.before.link_of_first;
+        a.grew() && a.before.count > 1 && link != NONE && !a.before.is_data(link)
+    }),
+    ("growth: by the last sector of the diskette", |a| {
+        a.grew() && a.before.shape.map_or(false, |shape| a.before.first == (shape.last, shape.per))
+    }),
+    ("growth: by the directory's last sector", |a| a.grew() && a.before.directory.last() == a.before.first),
+    ("growth: by the directory's last sector with count 1", |a| {
+        a.grew() && a.before.directory.last() == a.before.first && a.before.count == 1
+    }),
+    ("growth: by another sector of the directory", |a| a.grew() && a.before.first_is_inside_directory()),
+    ("growth: by a file's sector", |a| a.grew() && a.before.first_is_a_files),
+    ("growth: to the longest directory", |a| {
+        let longest = a.before.shape.map_or(0, |shape| shape.longest());
+        a.grew() && a.before.directory.sectors.len() + 1 == longest
+    }),
+    ("growth: 7", |a| a.before.crowds() && a.answer == 7),
+    ("growth: 7 of a directory that has grown", |a| {
+        a.before.crowds() && a.answer == 7 && a.before.directory.taken() > 0
+    }),
+    ("growth: 7 and not 10 where first free is no data sector", |a| {
+        a.before.crowds() && a.answer == 7 && a.before.first != NONE && !a.before.is_data(a.before.first)
+    }),
+    ("growth: 7 and not 10 of the longest directory", |a| {
+        let longest = a.before.shape.map_or(0, |shape| shape.longest());
+        a.before.crowds() && a.answer == 7 && a.before.directory.sectors.len() == longest
+    }),
+    ("growth: 10 for first free", |a| {
+        a.before.crowds() && a.answer == 10 && a.before.first != NONE && !a.before.is_data(a.before.first)
+    }),
+    ("growth: 10 for first free on track 0", |a| {
+        a.before.crowds() && a.answer == 10 && a.before.first.0 == 0 && a.before.first.1 >= 5
+    }),
+    ("growth: 10 for first free 0,0 with a count", |a| a.before.crowds() && a.answer == 10 && a.before.first == NONE),
+    ("growth: 10 of the longest directory", |a| {
+        a.before.crowds() && a.answer == 10 && a.before.is_data(a.before.first)
+    }),
+    ("growth: 3 and not 7 or 10", |a| {
+        let no_free = a.before.count == 0 || !a.before.is_data(a.before.first);
+        a.before.crowds() && a.answer == 3 && no_free
+    }),
+    ("growth: 21 and not 7 or 10", |a| {
+        let no_free = a.before.count == 0 || !a.before.is_data(a.before.first);
+        a.before.crowds() && a.answer == 21 && no_free
+    }),
+    ("growth: not where a slot is left, though no sector is free", |a| {
+        a.before.code == 2 && a.answer == 0 && a.before.directory.has_room && a.before.count == 0
+    }),
+    ("directory: 5 in a circle through data sectors", |a| {
+        a.answer == 5 && a.before.directory.ends == Ends::Never && a.before.directory.taken() > 0
+    }),
+    ("directory: 5 in a circle on track 0", |a| {
+        a.answer == 5 && a.before.directory.ends == Ends::Never && a.before.directory.taken() == 0
+    }),
+    ("directory: 5 where a data sector links astray", |a| {
+        a.answer == 5 && a.before.directory.ends == Ends::Astray && a.before.directory.last().0 > 0
+    }),
+    ("directory: an open for write while it is in a circle", |a| {
+        a.before.code == 2 && a.answer == 5 && a.before.directory.ends == Ends::Never
+    }),
+    ("taken sector: open read", |a| a.is_in_taken(1)),
+    ("taken sector: delete", |a| a.is_in_taken(12)),
+    ("taken sector: rename", |a| a.is_in_taken(13)),
+    ("taken sector: open read of a file in use", |a| a.is_in_use_in_taken(1)),
+    ("taken sector: delete of a file in use", |a| a.is_in_use_in_taken(12)),
+    ("taken sector: rename of a file in use", |a| a.is_in_use_in_taken(13)),
+    ("taken sector: close unwritten", |a| {
+        a.before.is(4, 2) && a.answer == 0 && a.before.position == NONE && a.before.is_at_taken()
     }),
     // 4
     ("close: reading", |a| a.before.is(4, 1) && a.answer == 0),
@@ -385,9 +497,33 @@ pub const CALL_SITUATIONS: &[(&str, Met)] = &[
     }),
     // 7, 9
     ("next slot: the first", |a| a.before.code == 7 && a.answer == 0 && a.before.place == [0, 0, 0]),
-    ("next slot: in the same sector", |a| a.before.code == 7 && a.answer == 0 && a.before.place[1] == a.place[1]),
+    ("next slot: in the same sector", |a| {
+        a.before.code == 7 && a.answer == 0 && a.before.place[..2] == a.place[..2] && a.place[0] == 0
+    }),
     ("next slot: in the next sector", |a| {
-        a.before.code == 7 && a.answer == 0 && a.before.place[1] != 0 && a.before.place[1] != a.place[1]
+        a.before.code == 7 && a.answer == 0 && a.before.place[1] != 0 && a.before.place[..2] != a.place[..2]
+    }),
+    ("next slot: from track 0 to a data sector", |a| {
+        a.before.code == 7 && a.answer == 0 && a.before.place[0] == 0 && a.before.place[1] != 0 && a.place[0] != 0
+    }),
+    ("next slot: in a data sector", |a| {
+        a.before.code == 7 && a.answer == 0 && a.place[0] != 0 && a.before.place[..2] == a.place[..2]
+    }),
+    ("next slot: from a data sector to another", |a| {
+        let moved = a.before.place[..2] != a.place[..2];
+        a.before.code == 7 && a.answer == 0 && a.before.place[0] != 0 && a.place[0] != 0 && moved
+    }),
+    ("next slot: from a data sector back to track 0", |a| {
+        a.before.code == 7 && a.answer == 0 && a.before.place[0] != 0 && a.place[0] == 0
+    }),
+    ("next slot: the end in a data sector", |a| a.before.code == 7 && a.answer == 8 && a.before.place[0] != 0),
+    ("next slot: not between slots of a data sector", |a| {
+        a.before.code == 7 && a.answer == 5 && a.before.directory.ends == Ends::Right && a.before.is_at_taken()
+    }),
+    ("next slot: a data sector that is not the directory's", |a| {
+        let at = (a.before.place[0], a.before.place[1]);
+        let is_elsewhere = a.before.is_data(at) && !a.before.directory.sectors.contains(&at);
+        a.before.code == 7 && a.answer == 5 && a.before.directory.ends == Ends::Right && is_elsewhere
     }),
     ("next slot: place 0,0,0 in a directory that is not right", |a| {
         a.before.code == 7 && a.answer == 5 && a.before.place == [0, 0, 0]
@@ -412,7 +548,9 @@ pub const CALL_SITUATIONS: &[(&str, Met)] = &[
     ("delete: size 0 with addresses that are no data sectors", |a| {
         a.answer == 0 && a.before.deletes(|slot| slot.size == 0 && slot.start != NONE && !a.before.is_data(slot.start))
     }),
-    ("delete: of a name behind a never-used slot", |a| a.before.code == 12 && a.answer == 0 && a.before.behind_hole),
+    ("delete: of a name behind a never-used slot", |a| {
+        a.before.code == 12 && a.answer == 0 && a.before.names.behind_hole
+    }),
     ("delete: behind a free chain", |a| a.answer == 0 && a.before.count > 0 && a.before.deletes(|slot| slot.size > 0)),
     ("delete: behind an empty free chain", |a| {
         a.answer == 0 && a.before.count == 0 && a.before.deletes(|slot| slot.size > 0)
@@ -455,195 +593,20 @@ pub const CALL_SITUATIONS: &[(&str, Met)] = &[
         a.answer == 0 && a.before.deletes(|_| true) && a.others.contains(&16)
     }),
     // 13
-    ("rename: its own name", |a| a.answer == 3 && a.before.renames(|_| true) && a.before.own_name),
-    ("rename: another file's name", |a| a.answer == 3 && a.before.renames(|_| true) && !a.before.own_name),
+    ("rename: its own name", |a| a.answer == 3 && a.before.renames(|_| true) && a.before.names.are_equal),
+    ("rename: another file's name", |a| a.answer == 3 && a.before.renames(|_| true) && !a.before.names.are_equal),
     ("rename: byte 59 spoils the new name", |a| a.answer == 21 && a.before.code == 13 && a.before.compression == 255),
     ("rename: delete protection does not matter", |a| {
         a.answer == 0 && a.before.renames(|slot| slot.attributes & 64 != 0)
     }),
     ("rename: read protection does not matter", |a| a.answer == 0 && a.before.renames(|slot| slot.attributes == 32)),
-    ("rename: of a name behind a never-used slot", |a| a.before.code == 13 && a.answer == 0 && a.before.behind_hole),
+    ("rename: of a name behind a never-used slot", |a| {
+        a.before.code == 13 && a.answer == 0 && a.before.names.behind_hole
+    }),
     ("rename: 3 for a new name behind a never-used slot", |a| {
-        a.before.code == 13 && a.answer == 3 && a.before.new_behind_hole && !a.before.own_name
+        a.before.code == 13 && a.answer == 3 && a.before.names.new_behind_hole && !a.before.names.are_equal
     }),
     ("rename: in use by a reader", |a| a.answer == 2 && a.before.code == 13 && a.others == [1]),
     ("rename: in use by a writer", |a| a.answer == 2 && a.before.code == 13 && a.others == [2]),
     ("rename: a closed block has the place", |a| a.answer == 0 && a.before.renames(|_| true) && a.others.contains(&0)),
-];
-
-/// Looked at before a census.
-pub struct Surveyed {
-    /// A search comes to a never-used slot before a live one.
-    hole: bool,
-    /// Two live slots of track 0 have equal names.
-    twins: bool,
-    free: (Address, Address, u16),
-    /// Each live slot's start, end and size.
-    files: Vec<(Address, Address, u16)>,
-    data_sectors: u32,
-}
-
-impl Surveyed {
-    pub fn of(image: &[u8]) -> Option<Surveyed> {
-        let shape = Shape::of(image)?;
-        let slots: Vec<usize> = shape.slots().collect();
-        let live: Vec<usize> = slots.iter().copied().filter(|&slot| (1..128).contains(&image[slot])).collect();
-        let chain =
-            |first: usize, last: usize, count: usize| (address(image, first), address(image, last), word(image, count));
-        let mut names: Vec<&[u8]> = live.iter().map(|&slot| &image[slot..slot + 11]).collect();
-        names.sort_unstable();
-        Some(Surveyed {
-            hole: shape
-                .in_order(image)
-                .into_iter()
-                .skip_while(|&slot| image[slot] != 0)
-                .any(|slot| (1..128).contains(&image[slot])),
-            twins: names.windows(2).any(|pair| pair[0] == pair[1]),
-            free: chain(541, 543, 545),
-            files: live.iter().map(|&slot| chain(slot + 13, slot + 15, slot + 17)).collect(),
-            data_sectors: shape.last as u32 * shape.per as u32,
-        })
-    }
-
-    fn total(&self) -> u32 {
-        self.free.2 as u32 + self.files.iter().map(|file| file.2 as u32).sum::<u32>()
-    }
-}
-
-type MetByCensus = fn(&Surveyed, u32) -> bool;
-
-/// Situations of the census, each with its test. All must occur.
-pub const CENSUS_SITUATIONS: &[(&str, MetByCensus)] = &[
-    ("census: accepted with no file", |s, answer| answer == 0 && s.files.is_empty()),
-    ("census: accepted with files and free sectors", |s, answer| answer == 0 && !s.files.is_empty() && s.free.2 > 0),
-    ("census: accepted with no free sector", |s, answer| answer == 0 && s.free.2 == 0),
-    ("census: accepted with a file of no sector", |s, answer| answer == 0 && s.files.iter().any(|file| file.2 == 0)),
-    ("census: accepted with a live slot behind a never-used one", |s, answer| answer == 0 && s.hole),
-    ("census: two equal names", |s, answer| answer == 43 && s.twins && !s.hole),
-    ("census: two equal names and a live slot behind a never-used one", |s, answer| answer == 43 && s.twins && s.hole),
-    ("census: free count over M·S", |s, answer| answer == 44 && s.free.2 as u32 > s.data_sectors),
-    ("census: free count 0 with an address", |s, answer| answer == 44 && s.free.2 == 0),
-    ("census: free chain wrong inside", |s, answer| answer == 44 && s.free.2 > 1 && s.free.2 as u32 <= s.data_sectors),
-    ("census: a file's count over M·S", |s, answer| {
-        answer == 45 && s.files.iter().any(|file| file.2 as u32 > s.data_sectors)
-    }),
-    ("census: a file's count 0 with an address", |s, answer| {
-        answer == 45 && s.files.iter().any(|file| file.2 == 0 && (file.0 != NONE || file.1 != NONE))
-    }),
-    ("census: sectors lost", |s, answer| answer == 46 && s.total() < s.data_sectors),
-    ("census: sectors shared", |s, answer| answer == 46 && s.total() > s.data_sectors),
-    ("census: sectors shared and as many lost", |s, answer| answer == 46 && s.total() == s.data_sectors),
-];
-
-/// Looked at before a format.
-pub struct Formatted {
-    wanted: Wanted,
-    image_len: usize,
-    /// What the image is before.
-    shape: Option<Shape>,
-    /// It has a live slot on track 0.
-    has_files: bool,
-    /// Of each block.
-    activities: Vec<u8>,
-}
-
-impl Formatted {
-    pub fn before(image: &[u8], table: &[u8], wanted: &Wanted) -> Formatted {
-        let shape = Shape::of(image);
-        let is_live = |slot: usize| (1..128).contains(&image[slot]);
-        Formatted {
-            wanted: wanted.clone(),
-            image_len: image.len(),
-            shape,
-            has_files: shape.map_or(false, |shape| shape.slots().any(is_live)),
-            activities: table.chunks(flex::BLOCK).map(|block| block[ACTIVITY]).collect(),
-        }
-    }
-
-    fn is(&self, last: usize, per: usize) -> bool {
-        (self.wanted.last, self.wanted.per) == (last, per)
-    }
-
-    fn image_is_right(&self) -> bool {
-        self.image_len == self.wanted.image_bytes()
-    }
-
-    fn label_is_right(&self) -> bool {
-        self.wanted.label.len() == LABEL
-    }
-
-    /// The image is this much longer than it should be, and all else is right.
-    fn image_is_off_by(&self, bytes: isize) -> bool {
-        self.label_is_right() && self.image_len.wrapping_sub(self.wanted.image_bytes()) == bytes as usize
-    }
-
-    /// The label alone is wrong, of this many bytes.
-    fn label_alone_has(&self, bytes: usize) -> bool {
-        self.image_is_right() && self.wanted.label.len() == bytes
-    }
-
-    /// M alone is wrong, and this.
-    fn last_alone_is(&self, last: usize) -> bool {
-        self.wanted.last == last && self.wanted.per_is_right() && self.image_is_right() && self.label_is_right()
-    }
-
-    /// S alone is wrong, and this.
-    fn per_alone_is(&self, per: usize) -> bool {
-        self.wanted.per == per && self.wanted.last_is_right() && self.image_is_right() && self.label_is_right()
-    }
-
-    /// M or S has more than these bits, though not twice as many; by these alone both would be right, and so would the image.
-    fn is_right_by(&self, bits: u32) -> bool {
-        let Wanted { last, per, .. } = self.wanted;
-        let most = (1 << bits) - 1;
-        let cut = Wanted { last: last & most, per: per & most, ..self.wanted.clone() };
-        let is_right = cut.last_is_right() && cut.per_is_right() && cut.image_bytes() == self.image_len;
-        is_right && last.max(per) >> bits <= most
-    }
-}
-
-type MetByFormat = fn(&Formatted, u32) -> bool;
-
-/// Situations of format, each with its test. All must occur.
-pub const FORMAT_SITUATIONS: &[(&str, MetByFormat)] = &[
-    ("format: the smallest diskette", |f, answer| answer == 0 && f.is(1, 5)),
-    ("format: the largest diskette", |f, answer| answer == 0 && f.is(79, 36)),
-    ("format: over a diskette with files", |f, answer| answer == 0 && f.has_files),
-    ("format: over a diskette of another shape", |f, answer| {
-        let wanted = Shape { last: f.wanted.last as u8, per: f.wanted.per as u8 };
-        answer == 0 && f.shape.map_or(false, |shape| shape != wanted)
-    }),
-    ("format: over what is no diskette", |f, answer| answer == 0 && f.shape.is_none()),
-    ("format: while all blocks are closed", |f, answer| answer == 0 && f.activities.iter().all(|&is| is == 0)),
-    ("format: while a block reads", |f, answer| answer == 0 && f.activities.contains(&1)),
-    ("format: while a block writes", |f, answer| answer == 0 && f.activities.contains(&2)),
-    ("format: 40 for an image of no bytes", |f, answer| answer == 40 && f.image_len == 0 && f.label_is_right()),
-    ("format: 40 for an image one byte short", |f, answer| answer == 40 && f.image_is_off_by(-1)),
-    ("format: 40 for an image one byte long", |f, answer| answer == 40 && f.image_is_off_by(1)),
-    ("format: 40 for an image a track short", |f, answer| {
-        answer == 40 && f.image_is_off_by(-((f.wanted.per * flex::SECTOR) as isize))
-    }),
-    ("format: 40 for an image a track long", |f, answer| {
-        answer == 40 && f.image_is_off_by((f.wanted.per * flex::SECTOR) as isize)
-    }),
-    ("format: 40 for the image of M and S the other way round", |f, answer| {
-        answer == 40 && f.label_is_right() && f.image_len == (f.wanted.per + 1) * f.wanted.last * flex::SECTOR
-    }),
-    ("format: 40 for a label of no bytes", |f, answer| answer == 40 && f.label_alone_has(0)),
-    ("format: 40 for a label of 10 bytes", |f, answer| answer == 40 && f.label_alone_has(10)),
-    ("format: 40 for a label of 12 bytes", |f, answer| answer == 40 && f.label_alone_has(12)),
-    ("format: 40 for both image and label", |f, answer| answer == 40 && !f.image_is_right() && !f.label_is_right()),
-    ("format: 41 for M 0 alone", |f, answer| answer == 41 && f.last_alone_is(0)),
-    ("format: 41 for M 80 alone", |f, answer| answer == 41 && f.last_alone_is(80)),
-    ("format: 41 for S 4 alone", |f, answer| answer == 41 && f.per_alone_is(4)),
-    ("format: 41 for S 37 alone", |f, answer| answer == 41 && f.per_alone_is(37)),
-    ("format: 41 for both M and S", |f, answer| answer == 41 && !f.wanted.last_is_right() && !f.wanted.per_is_right()),
-    ("format: 41 and not 40 with an image of another length", |f, answer| answer == 41 && !f.image_is_right()),
-    ("format: 41 and not 40 with a label of another length", |f, answer| answer == 41 && !f.label_is_right()),
-    ("format: 41 where 8 bits of M and S would be right", |f, answer| answer == 41 && f.is_right_by(8)),
-    ("format: 41 where 16 bits of M and S would be right", |f, answer| answer == 41 && f.is_right_by(16)),
-    ("format: 41 where 32 bits of M and S would be right", |f, answer| answer == 41 && f.is_right_by(32)),
-    ("format: 41 where the product of 64 bits is the image's length", |f, answer| {
-        answer == 41 && f.image_len > 0 && f.image_is_right() && f.wanted.last.max(f.wanted.per) > 1 << 32
-    }),
 ];

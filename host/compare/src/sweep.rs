@@ -1,7 +1,8 @@
-//! What is tried in full and not at random: every shape, formatted, and every shape just past the limits, every function code,
+//! What is tried in full and not at random: the directory that grows (growth.rs), every shape, formatted, and every shape just past the limits, every function code,
 //! every byte in every place of a name, every directory place, every attribute byte, every offset of preset, every code of a
 //! default extension, every number and length of the error text; of format also wrong numbers and lengths of many kinds.
 
+use crate::growth;
 use crate::pair::{Checked, Pair};
 use crate::random::Random;
 use crate::scene::{Scene, SLOT_ATTRIBUTES};
@@ -23,6 +24,7 @@ pub fn everything(tally: &mut Tally, seed: u64) -> Checked<()> {
     attributes(tally)?;
     formats(tally, &mut random)?;
     past_the_limits(tally, &mut random)?;
+    growth::everything(tally)?;
     shapes(tally, &mut random)
 }
 

@@ -1,6 +1,8 @@
 //! What the run has reached: each answer of each function, and the situations that are easy to get wrong.
 
-use crate::seen::{After, Formatted, Surveyed, CALL_SITUATIONS, CENSUS_SITUATIONS, FORMAT_SITUATIONS};
+use crate::formatted::{Formatted, FORMAT_SITUATIONS};
+use crate::seen::{After, CALL_SITUATIONS};
+use crate::surveyed::{Surveyed, CENSUS_SITUATIONS};
 use flex::{ACTIVITY, FUNCTION};
 use std::fmt::Write;
 
@@ -17,7 +19,7 @@ const EXPECTED: [(&str, &[u32]); 19] = [
     ("0 writing", &[16, 5, 10, 7, 0]),
     ("0 neither", &[16, 18]),
     ("1 open read", &[16, 18, 21, 5, 4, 17, 2, 0]),
-    ("2 open write", &[16, 18, 21, 5, 3, 6, 0]),
+    ("2 open write", &[16, 18, 21, 5, 3, 7, 10, 0]),
     ("4 close", &[16, 18, 13, 5, 10, 0]),
     ("5 rewind", &[16, 18, 0]),
     ("6 open directory", &[16, 18, 0]),

@@ -1,12 +1,13 @@
 //! What a host does: files written, read, deleted and renamed, the directory walked, the diskette formatted, and calls with wrong
 //! lengths and numbers.
 
+use crate::image::is_live;
 use crate::pair::Checked;
 use crate::scene::{Scene, IDLE, SLOT_ATTRIBUTES};
 use crate::wanted::{no_last_tracks, no_per_tracks, Wanted, LABEL, NO_LABELS};
 use flex::{
-    Steps, BLOCK, BLOCKS, CLOSE, DELETE, DRIVE, EXTENSION, NAME, NEW_NAME, NEXT_SLOT, OPEN_DIRECTORY, OPEN_WRITE,
-    POSITION, READ_SECTOR, RENAME, REWIND, TABLE,
+    Steps, ACTIVITY, BLOCK, BLOCKS, CLOSE, DELETE, DRIVE, EXTENSION, NAME, NEW_NAME, NEXT_SLOT, OPEN_DIRECTORY,
+    OPEN_WRITE, POSITION, READ_SECTOR, RENAME, REWIND, TABLE,
 };
 
 /// Numbers of blocks that do not exist; some of them times 320 wrap around to a small number.
@@ -18,7 +19,7 @@ const PAST: [usize; 6] = [320, 65536, 1 << 32, (1 << 32) + 4, usize::MAX, usize:
 impl Scene<'_> {
     /// One thing that a host would do.
     pub fn work(&mut self) -> Checked<()> {
-        match self.random.below(36) {
+        match self.random.below(39) {
             0..=5 => self.write_file(),
             6..=8 => self.write_on(),
             9..=12 => self.read_file(),
@@ -36,7 +37,8 @@ impl Scene<'_> {
             32 => self.leave_holes(),
             33 => self.protect(),
             34 => self.begin_anew(),
-            _ => self.wrong_lengths(),
+            35 => self.wrong_lengths(),
+            _ => self.crowd(),
         }
     }
 
@@ -197,17 +199,37 @@ impl Scene<'_> {
         self.transfer(fcb, n)
     }
 
-    /// One-byte files until there is no slot or no sector, or a few of them unwritten.
+    /// One-byte files until the slots are used up and some more, or until no sector is left.
     fn fill_directory(&mut self) -> Checked<()> {
         let fcb = self.block_with(IDLE);
         let first = self.random.below(1000);
-        for i in 0..10 * (self.per - 4) + 1 {
+        for i in 0..10 * (self.per - 4) + 12 {
             self.set_block(fcb, NAME, Scene::numbered_name(first + i).bytes());
             if self.ask(fcb, OPEN_WRITE)? != 0 {
                 break;
             }
             self.transfer(fcb, 1)?;
             self.ask(fcb, CLOSE)?;
+            if self.information(33) == (0, 0) {
+                break;
+            }
+        }
+        Ok(())
+    }
+
+    /// Files that are opened for write when the power fails: after the restart their blocks are closed, and their slots are live
+    /// without a sector. There are as many as a directory of few slots has room for, and some more, for which it grows.
+    fn crowd(&mut self) -> Checked<()> {
+        let image = self.pair.image();
+        let vacant = self.slots().into_iter().filter(|&slot| !is_live(image, slot)).count();
+        let fcb = self.block_with(IDLE);
+        let first = self.random.below(1000);
+        for i in 0..vacant.min(40) + self.random.below(14) {
+            self.set_block(fcb, NAME, Scene::numbered_name(first + i).bytes());
+            if ![0, 3].contains(&self.ask(fcb, OPEN_WRITE)?) {
+                break;
+            }
+            self.set_block(fcb, ACTIVITY, &[0]);
         }
         Ok(())
     }

@@ -76,7 +76,7 @@ unchanged 42
 refuses 1 "DISK ERROR #005" list disk
 refuses 1 "DISK ERROR #005" list --json disk
 ends 1 "" check disk
-shows "42 directory: its sector 0,5 links to 0,4, which is not on track 0 in sectors 5 to 8"
+shows "42 directory: its sector 0,5 links to 0,4, which is neither on track 0 in sectors 5 to 8 nor a data sector"
 shows "the slots can't be listed: names, files and their sectors are not checked"
 
 does info disk

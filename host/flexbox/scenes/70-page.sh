@@ -49,7 +49,7 @@ tells() {
 }
 
 patch 1024 0 4
-tells 42 "directory not right" "directory: its sector 0,5 links to 0,4, which is not on track 0" 0-5
+tells 42 "directory not right" "directory: its sector 0,5 links to 0,4, which is neither on track 0" 0-5
 shows "It can't be listed."
 fresh
 patch "$(slot 3)" 78 79 82 84 72

@@ -4,7 +4,7 @@
 
 use crate::block_at;
 use crate::directory::{self, ATTRIBUTES, DATE, END, SIZE, SLOT, START};
-use crate::shape::{address, set_address, set_word, word, Address, Shape, INFORMATION, NONE};
+use crate::shape::{address, set_address, set_word, word, Address, Shape, INFORMATION, NONE, SECTOR};
 
 // Offsets in a control block.
 const FUNCTION: usize = 0;
@@ -153,12 +153,12 @@ impl Call<'_> {
     /// The slot of the block's directory place; 5 if the directory is not right or has no such slot.
     fn own_slot(&self) -> Result<usize, u8> {
         let place = [self.block(PLACE), self.block(PLACE + 1), self.block(PLACE + 2)];
-        directory::slot_at(&self.slots()?, &place).ok_or(5)
+        directory::slot_at(self.shape, &self.slots()?, &place).ok_or(5)
     }
 
     /// 2: a block of one of these activities has the slot's place.
     fn not_in_use(&self, slot: usize, activities: &[u8]) -> Result<(), u8> {
-        let place = directory::place(slot);
+        let place = directory::place(self.shape, slot);
         let in_use = self
             .table
             .chunks(crate::BLOCK)
@@ -184,19 +184,42 @@ impl Call<'_> {
         self.opened(READ, slot)
     }
 
-    /// "21, 5, 3, 6; the first deleted or never-used slot in order gets name and date, all else 0."
+    /// "21, 5, 3 [..]; the first deleted or never-used slot in order gets name and date, all else 0." 02, ticket 4: "When no slot
+    /// is left, open for write takes the first free sector, clears it and links it behind the last directory sector".
     fn open_write(&mut self) -> Outcome {
         let name = self.legal_name(NAME)?;
         let slots = self.slots()?;
         if directory::find(self.image, &slots, &name).is_some() {
             return Err(3);
         }
-        let slot = directory::vacant(self.image, &slots).ok_or(6)?;
+        let slot = match directory::vacant(self.image, &slots) {
+            Some(slot) => slot,
+            None => self.grow_directory(&slots)?,
+        };
         let date = self.f + FILE_DATE;
         self.image[slot..slot + SLOT].fill(0);
         self.image[slot..slot + 11].copy_from_slice(&name);
         self.image[slot + DATE..slot + DATE + 3].copy_from_slice(&self.table[date..date + 3]);
         self.opened(WRITE, slot)
+    }
+
+    /// "takes the first free sector, clears it and links it behind the last directory sector; if the count is 0 it answers 7,
+    /// then 10 if that sector is no data sector or the chain is at its longest." Gives the first slot of the new sector. The
+    /// stores are in this order on a damaged image too, where the new sector may be one of the directory's.
+    fn grow_directory(&mut self, slots: &[usize]) -> Result<usize, u8> {
+        let count = word(self.image, FREE_COUNT);
+        if count == 0 {
+            return Err(7);
+        }
+        let taken = address(self.image, FIRST_FREE);
+        if !self.shape.is_data(taken) || directory::is_longest(self.shape, slots) {
+            return Err(10);
+        }
+        self.shorten_free_chain(taken, count);
+        let sector = self.shape.offset(taken);
+        self.image[sector..sector + SECTOR].fill(0);
+        set_address(self.image, directory::last_sector(slots), taken);
+        Ok(directory::first_slot(sector))
     }
 
     /// "Both then copy the slot to 4-27, zero 0 and 30-35, set 2, 47-49, and 59 to 255."
@@ -206,7 +229,7 @@ impl Call<'_> {
         self.zero(30, 35);
         self.set(ACTIVITY, activity);
         let at = self.f + PLACE;
-        self.table[at..at + 3].copy_from_slice(&directory::place(slot));
+        self.table[at..at + 3].copy_from_slice(&directory::place(self.shape, slot));
         self.set(COMPRESSION, 255);
         Ok(0)
     }
@@ -378,12 +401,12 @@ impl Call<'_> {
         let next = if place == [0, 0, 0] {
             0
         } else {
-            let slot = directory::slot_at(&slots, &place).ok_or(5)?;
+            let slot = directory::slot_at(self.shape, &slots, &place).ok_or(5)?;
             1 + slots.iter().position(|&s| s == slot).ok_or(5)?
         };
         let slot = *slots.get(next).ok_or(8)?;
         let at = self.f + PLACE;
-        self.table[at..at + 3].copy_from_slice(&directory::place(slot));
+        self.table[at..at + 3].copy_from_slice(&directory::place(self.shape, slot));
         self.slot_to_block(slot);
         Ok(0)
     }

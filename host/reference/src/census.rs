@@ -3,6 +3,10 @@
 use crate::directory::{self, END, SIZE, START};
 use crate::shape::{address, word, Address, Shape, INFORMATION, NONE};
 
+/// The owners that are no slot.
+const FREE: u16 = 0;
+const DIRECTORY: u16 = 65_534;
+
 /// The host's form: each output is bytes, two an entry, high byte first.
 pub fn census(image: &[u8], sectors: &mut [u8], owners: &mut [u8]) -> u32 {
     let shape = match Shape::of(image) {
@@ -29,15 +33,16 @@ pub fn census(image: &[u8], sectors: &mut [u8], owners: &mut [u8]) -> u32 {
     }
 }
 
-/// Each data sector's number and its owner, "free chain first, then live slots in order", or the refusal.
+/// Each data sector's number and its owner, "free chain first, then live slots in order", or the refusal. 02, ticket 4: "The
+/// census lists these sectors after the free chain with owner 65,534": those that the directory has taken.
 fn holdings(image: &[u8], shape: Shape) -> Result<Vec<(u16, u16)>, u32> {
     let slots = directory::slots(image, shape).ok_or(42u32)?;
     if has_equal_names(image, &slots) {
         return Err(43);
     }
-    let mut held = Vec::new();
     let free = chain(image, shape, INFORMATION + 29, INFORMATION + 31, INFORMATION + 33).ok_or(44u32)?;
-    held.extend(free.into_iter().map(|sector| (sector, 0)));
+    let mut held: Vec<(u16, u16)> = free.into_iter().map(|sector| (sector, FREE)).collect();
+    held.extend(directory::data_sectors(shape, &slots).map(|sector| (sector, DIRECTORY)));
     for (i, &slot) in slots.iter().enumerate() {
         if directory::is_live(image, slot) {
             let file = chain(image, shape, slot + START, slot + END, slot + SIZE).ok_or(45u32)?;

@@ -1,9 +1,12 @@
 //! Names, and the directory with its slots. A slot is known by its offset in the image.
 
-use crate::shape::{address, Shape, NONE};
+use crate::shape::{address, Address, Shape, NONE, SECTOR};
 
 /// The bytes of a slot.
 pub const SLOT: usize = 24;
+/// "Slots: ten per sector, at 16, 40, .. 232"
+const SLOTS: usize = 10;
+const FIRST_SLOT: usize = 16;
 /// Where a slot has its attributes, start, end and size: it is equal to bytes 4-27 of a control block.
 pub const ATTRIBUTES: usize = 15 - 4;
 pub const START: usize = 17 - 4;
@@ -24,23 +27,55 @@ pub fn is_legal(name: &[u8]) -> bool {
     word_is_legal(&name[..8]) && word_is_legal(&name[8..11])
 }
 
-/// The slots of the whole directory in order, or nothing if it is not right: "The directory begins at (0, 5) and
-/// follows links. It is right if it reaches 0,0 within S − 4 sectors, all on track 0 in 5..S."
+/// The slots of the whole directory in order, or nothing if it is not right. 01: "The directory begins at (0, 5) and follows
+/// links", to 0,0. 02, ticket 4: "Directory links may now also name data sectors, with at most S − 4 + M·S sectors in the
+/// chain."
 pub fn slots(image: &[u8], shape: Shape) -> Option<Vec<usize>> {
     let mut slots = Vec::new();
     let mut at = (0, 5);
-    for _ in 0..shape.per - 4 {
+    for _ in 0..longest(shape) {
         let sector = shape.offset(at);
-        slots.extend((0..10).map(|i| sector + 16 + SLOT * i));
+        slots.extend((0..SLOTS).map(|i| first_slot(sector) + SLOT * i));
         at = address(image, sector);
         if at == NONE {
             return Some(slots);
         }
-        if at.0 != 0 || at.1 < 5 || at.1 as usize > shape.per {
+        if !may_hold_slots(shape, at) {
             return None;
         }
     }
     None
+}
+
+/// "S − 4 + M·S"
+fn longest(shape: Shape) -> usize {
+    shape.per - 4 + shape.data_sectors()
+}
+
+/// On track 0 the sectors 5 to S, elsewhere every one.
+fn may_hold_slots(shape: Shape, at: Address) -> bool {
+    shape.is_data(at) || (shape.exists(at) && at.1 >= 5)
+}
+
+/// The first slot of the sector that begins here.
+pub fn first_slot(sector: usize) -> usize {
+    sector + FIRST_SLOT
+}
+
+/// Whether a right directory with these slots has as many sectors as there may be.
+pub fn is_longest(shape: Shape, slots: &[usize]) -> bool {
+    slots.len() == SLOTS * longest(shape)
+}
+
+/// Where the directory's last sector begins. A right directory has at least one sector.
+pub fn last_sector(slots: &[usize]) -> usize {
+    slots[slots.len() - 1] / SECTOR * SECTOR
+}
+
+/// The numbers of the data sectors that a right directory with these slots has, in its order.
+pub fn data_sectors(shape: Shape, slots: &[usize]) -> impl Iterator<Item = u16> + '_ {
+    let addresses = slots.iter().step_by(SLOTS).map(move |&slot| shape.address(slot / SECTOR));
+    addresses.filter(move |&at| shape.is_data(at)).map(move |at| shape.number(at) as u16)
 }
 
 /// "First byte 0: never used; 128 or more: deleted; otherwise live."
@@ -58,12 +93,13 @@ pub fn vacant(image: &[u8], slots: &[usize]) -> Option<usize> {
     slots.iter().copied().find(|&slot| !is_live(image, slot))
 }
 
-/// A slot's directory place: track, sector, displacement. The whole directory is on track 0.
-pub fn place(slot: usize) -> [u8; 3] {
-    [0, (slot / 256 + 1) as u8, (slot % 256) as u8]
+/// A slot's directory place: track, sector, displacement.
+pub fn place(shape: Shape, slot: usize) -> [u8; 3] {
+    let (track, sector) = shape.address(slot / SECTOR);
+    [track, sector, (slot % SECTOR) as u8]
 }
 
 /// The slot at this place, if the directory has it.
-pub fn slot_at(slots: &[usize], wanted: &[u8]) -> Option<usize> {
-    slots.iter().copied().find(|&slot| place(slot) == *wanted)
+pub fn slot_at(shape: Shape, slots: &[usize], wanted: &[u8]) -> Option<usize> {
+    slots.iter().copied().find(|&slot| place(shape, slot) == *wanted)
 }

@@ -57,6 +57,11 @@ impl Shape {
         (track as usize * self.per + sector as usize - 1) * SECTOR
     }
 
+    /// The address of the sector before which there are this many in the image.
+    pub fn address(&self, sectors: usize) -> Address {
+        ((sectors / self.per) as u8, (sectors % self.per) as u8 + 1)
+    }
+
     /// How many data sectors there are.
     pub fn data_sectors(&self) -> usize {
         self.last * self.per

@@ -108,8 +108,8 @@ impl Diskette {
 
     /// A new file of these bytes. With none it is no file: closed unwritten, it is deleted.
     ///
-    /// Where it is refused after the open (7, 10), the block stays open and the slot live: throw the diskette away then, and
-    /// with it what was done.
+    /// Where it is refused after the open (7, 10), the block stays open and the slot live, and a sector that the directory has
+    /// taken for it stays the directory's: throw the diskette away then, and with it what was done.
     pub fn put(&mut self, name: &Name, bytes: &[u8], date: [u8; 3]) -> Result<(), Refusal> {
         self.create(JOB, name, date)?;
         self.send(JOB, bytes)?;

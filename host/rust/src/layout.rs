@@ -42,7 +42,7 @@ pub const POSITION: usize = 30;
 pub const RECORD: usize = 32;
 /// Of the next byte in the buffer.
 pub const INDEX: usize = 34;
-/// 47-49: track, sector and displacement of the slot.
+/// 47-49: track, sector and displacement of the slot, in any sector of the directory.
 pub const PLACE: usize = 47;
 /// 53-63: name and extension for a rename. Opening a file sets byte 59 to 255, so preset all eleven before a rename.
 pub const NEW_NAME: usize = 53;
@@ -64,7 +64,8 @@ pub const ATTRIBUTE_READ: u8 = 32;
 pub const NEXT_BYTE: u8 = 0;
 /// Idle; the file by this name. Sets the function to 0.
 pub const OPEN_READ: u8 = 1;
-/// Idle; a new file by this name and date. Sets the function to 0.
+/// Idle; a new file by this name and date. Sets the function to 0. Where no slot is left the directory takes the first free
+/// sector, or the answer is 7.
 pub const OPEN_WRITE: u8 = 2;
 /// Open; a file closed unwritten is deleted.
 pub const CLOSE: u8 = 4;
@@ -80,6 +81,13 @@ pub const READ_SECTOR: u8 = 9;
 pub const DELETE: u8 = 12;
 /// Idle; the file by this name gets the new name.
 pub const RENAME: u8 = 13;
+
+// Owners of data sectors in a census, besides the numbers of slots, which are at most 28,760.
+
+/// In the free chain.
+pub const OWNER_FREE: u16 = 0;
+/// Taken by the directory when it had no slot left; it is never given back.
+pub const OWNER_DIRECTORY: u16 = 65_534;
 
 /// The most bytes that the image of a diskette has: 80 tracks of 36 sectors.
 pub const LARGEST_IMAGE: usize = 737_280;
@@ -139,7 +147,7 @@ impl Shape {
         self.last as usize * self.per as usize
     }
 
-    /// Whether a file or the free chain can hold this sector.
+    /// Whether a file, the free chain or a directory that has grown can hold this sector.
     pub fn is_data(self, address: Address) -> bool {
         (1..=self.last).contains(&address.track) && (1..=self.per).contains(&address.sector)
     }

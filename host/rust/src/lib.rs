@@ -10,7 +10,7 @@
 //! # fn main() -> Result<(), Box<dyn std::error::Error>> {
 //! let mut diskette = flex::Diskette::new(std::fs::read("alarms.dsk")?);
 //! diskette.put(&"NIGHT.TXT".parse()?, b"22:41 AMPLIFIER 14 LEVEL LOW\n", [11, 15, 26])?;
-//! diskette.survey()?; // every sector is free or in one file
+//! diskette.survey()?; // every sector is free, the directory's or in one file
 //! std::fs::write("new.dsk", diskette.image())?;
 //! # Ok(())
 //! # }

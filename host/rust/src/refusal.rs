@@ -18,15 +18,13 @@ pub enum Refusal {
     NotFound,
     /// 5: the directory is not right, or the block's place is not a slot of it.
     Directory,
-    /// 6: the directory has no deleted or never-used slot.
-    DirectoryFull,
-    /// 7: no sector is free.
+    /// 7: no sector is free, for a file's bytes or for the directory when it has no slot left.
     DiskFull,
     /// 8: the end of the file or of the directory.
     End,
     /// 9: a bad address in reading or deleting.
     BadRead,
-    /// 10: a bad address in writing.
+    /// 10: a bad address in writing, or in an open for write where the directory is to grow; or it is at its longest.
     BadWrite,
     /// 11: the file is write-protected.
     WriteProtected,
@@ -61,17 +59,16 @@ pub enum Refusal {
 use Refusal::*;
 
 /// Each number of documents 01 and 02 with its name here and its meaning in a few words.
-const ALL: [(u8, Refusal, &str); 24] = [
+const ALL: [(u8, Refusal, &str); 23] = [
     (1, NotServed, "function not served"),
     (2, InUse, "file in use"),
     (3, Exists, "name exists already"),
     (4, NotFound, "name not found"),
     (5, Directory, "directory not right, or not a slot of it"),
-    (6, DirectoryFull, "directory full"),
     (7, DiskFull, "diskette full"),
     (8, End, "end of file or directory"),
     (9, BadRead, "bad address in reading or deleting"),
-    (10, BadWrite, "bad address in writing"),
+    (10, BadWrite, "bad address in writing, or where the directory is to grow; or it is at its longest"),
     (11, WriteProtected, "file is write-protected"),
     (12, DeleteProtected, "file is delete-protected"),
     (13, NoBlock, "no such control block, or it is closed"),
@@ -134,6 +131,7 @@ mod tests {
             assert_eq!(Refusal::of(*number as u32), Some(*refusal));
         }
         assert_eq!(Refusal::of(0), None);
+        assert_eq!(Refusal::of(6), None, "the directory grows: it is never full");
         assert_eq!(Refusal::of(14), None);
         assert_eq!(Refusal::of(256 + 13), None);
     }

@@ -22,7 +22,7 @@ pub struct Slot {
 /// Where a slot lies: in this sector, from this byte on.
 #[derive(Clone, Copy, Debug, Default, PartialEq, Eq)]
 pub struct Place {
-    /// A sector of the directory.
+    /// A sector of the directory: on track 0, or a data sector that it has taken.
     pub sector: Address,
     /// The slot's first byte in it.
     pub displacement: u8,

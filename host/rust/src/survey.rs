@@ -10,11 +10,13 @@ use crate::refusal::Refusal;
 pub struct Held {
     /// Its number: sector (t, s) has (t − 1)·S + s − 1.
     pub sector: u16,
-    /// 0: it is free. Else the number of the slot whose file holds it, all slots counted from 1.
+    /// [`OWNER_FREE`](crate::OWNER_FREE), [`OWNER_DIRECTORY`](crate::OWNER_DIRECTORY), or the number of the slot whose file
+    /// holds it, all slots counted from 1.
     pub owner: u16,
 }
 
-/// Which chain holds each data sector: free chain first, then the files in the order of their slots.
+/// Which chain holds each data sector: free chain first, then those that the directory has taken, in its order, then the files
+/// in the order of their slots.
 pub fn survey(image: &[u8]) -> Result<Vec<Held>, Refusal> {
     // Where the shape is wrong this length is wrong too, and the census answers 41 whatever it is.
     let bytes = 2 * Shape::stated(image).map_or(0, Shape::data_sectors);

@@ -97,8 +97,8 @@ fn a_chain_deleted_on_a_full_diskette_becomes_the_free_chain() {
     assert_eq!(held(&five)[0], (0, 0));
 }
 
-#[test]
-fn p8_the_eleventh_file_finds_no_slot() {
+/// Three one-byte files closed, seven more open unwritten: all ten slots of the five-sector diskette are live.
+fn ten_files() -> Diskette {
     let mut five = five();
     for text in ["A.TXT", "B.TXT", "C.TXT"] {
         put(&mut five, text, 1);
@@ -106,7 +106,53 @@ fn p8_the_eleventh_file_finds_no_slot() {
     for (fcb, text) in ["D.TXT", "E.TXT", "F.TXT", "G.TXT", "H.TXT", "I.TXT", "J.TXT"].iter().enumerate() {
         five.create(fcb, &name(text), TODAY).unwrap();
     }
-    assert_eq!(five.create(7, &name("K.TXT"), TODAY), Err(Refusal::DirectoryFull));
+    five
+}
+
+#[test]
+fn p8_for_the_eleventh_file_the_directory_grows() {
+    let mut five = ten_files();
+    assert_eq!(five.create(7, &name("K.TXT"), TODAY), Ok(0));
+    assert_eq!(five.block(7)[PLACE..PLACE + 3], [1, 4, 16]);
+    assert_eq!(free(&five), [1, 5, 1, 5, 0, 1]);
+    assert_eq!(held(&five), [(4, OWNER_FREE), (3, OWNER_DIRECTORY), (0, 1), (1, 2), (2, 3)]);
+    let slots = Diskette::new(five.into_buffers().0).slots().unwrap();
+    assert_eq!(slots.len(), 20);
+    assert_eq!(slots[10].place, Place { sector: Address::new(1, 4), displacement: 16 });
+    assert_eq!(slots[10].entry().unwrap().name, name("K.TXT"));
+}
+
+#[test]
+fn no_slot_and_no_sector_is_a_full_diskette() {
+    let mut five = ten_files();
+    five.send(0, &bytes(504)).unwrap();
+    assert_eq!(free(&five), [0; 6]);
+    assert_eq!(five.create(7, &name("K.TXT"), TODAY), Err(Refusal::DiskFull));
+    let mut closed = Diskette::new(five.into_buffers().0);
+    closed.delete(&name("A.TXT")).unwrap();
+    assert_eq!(closed.create(7, &name("K.TXT"), TODAY), Ok(0));
+    assert_eq!(closed.block(7)[PLACE..PLACE + 3], [0, 5, 16]);
+}
+
+#[test]
+fn a_diskette_takes_more_files_than_track_0_has_slots() {
+    let mut diskette = Diskette::blank(34, 10, &[0; 11], 0, [0; 3]).unwrap();
+    let names: Vec<Name> = (0..200).map(|i| name(&format!("LOG-{}.TXT", i))).collect();
+    for (i, name) in names.iter().enumerate() {
+        diskette.put(name, &bytes(i + 1), TODAY).unwrap();
+    }
+    let slots = diskette.slots().unwrap();
+    assert_eq!(slots.len(), 200);
+    assert_eq!(slots.iter().filter(|slot| slot.place.sector.track > 0).count(), 140);
+    let directory = diskette.survey().unwrap().iter().filter(|held| held.owner == OWNER_DIRECTORY).count();
+    assert_eq!(directory, 14);
+    for (i, name) in names.iter().enumerate() {
+        let reading = diskette.get(name).unwrap();
+        assert_eq!((&reading.bytes[..i + 1], reading.is_as_stated()), (&bytes(i + 1)[..], true));
+        diskette.delete(name).unwrap();
+    }
+    let owners: Vec<u16> = diskette.survey().unwrap().iter().map(|held| held.owner).collect();
+    assert_eq!(owners, [vec![OWNER_FREE; 326], vec![OWNER_DIRECTORY; 14]].concat());
 }
 
 #[test]

@@ -1,12 +1,14 @@
 //! One job, done once, inside a function by whose name a tool knows when to count: all that makes its diskette is outside.
 
 use crate::jobs::{
-    data_sectors, half_full, outputs, to_fill, to_format, to_load, to_read, Buffers, Service, PLAIN, PROVED,
+    data_sectors, half_full, outputs, to_fill, to_format, to_load, to_open, to_read, with_files, Buffers, Service,
+    OPENED, PLAIN, PROVED,
 };
 
 /// A job with its buffers made ready.
 enum Job {
     Census(Vec<u8>, [Vec<u8>; 2]),
+    Open(Vec<u8>, Vec<Vec<u8>>),
     Fill(Buffers),
     Read(Buffers),
     Load(Buffers, Vec<[u8; 2]>),
@@ -15,8 +17,9 @@ enum Job {
     Format(Vec<u8>, usize, usize),
 }
 
-/// Does the job that the words of the command ask for. None: they are no words for a job.
-pub fn one(service: &str, job: &str, last: &str, per: &str) -> Option<()> {
+/// Does the job that the words of the command ask for; the last of them may be a number of files. None: they are no words for a
+/// job.
+pub fn one(service: &str, job: &str, last: &str, per: &str, files: &[&str]) -> Option<()> {
     let service = match service {
         "proved" => PROVED,
         "plain" => PLAIN,
@@ -24,10 +27,30 @@ pub fn one(service: &str, job: &str, last: &str, per: &str) -> Option<()> {
     };
     let last = last.parse().ok().filter(|last| (1..80).contains(last))?;
     let per = per.parse().ok().filter(|per| (5..37).contains(per))?;
-    let mut job = ready(job, last, per)?;
+    let mut job = match files {
+        [] => ready(job, last, per)?,
+        [files] => ready_with(job, last, per, files.parse().ok().filter(|files| (OPENED..10_000).contains(files))?)?,
+        _ => return None,
+    };
+    let whole = match job {
+        Job::Open(..) => OPENED,
+        _ => last * per * flex::DATA,
+    };
     let done = counted_job(service, &mut job);
-    assert_eq!(done, last * per * flex::DATA, "not all bytes were taken, given, loaded, stored, surveyed or freed");
+    assert_eq!(
+        done, whole,
+        "not all bytes were taken, given, loaded, stored, surveyed or freed, or not all files opened"
+    );
     Some(())
+}
+
+/// A job on a diskette with this many files.
+fn ready_with(job: &str, last: usize, per: usize, files: usize) -> Option<Job> {
+    match job {
+        "census" => Some(Job::Census(with_files(last, per, files), outputs(last * per))),
+        "open" => Some(to_open(last, per, files)).map(|(image, tables)| Job::Open(image, tables)),
+        _ => None,
+    }
 }
 
 fn ready(job: &str, last: usize, per: usize) -> Option<Job> {
@@ -48,7 +71,7 @@ fn filled(last: usize, per: usize) -> Buffers {
     buffers
 }
 
-/// How many bytes of files it went over. host/speed/counts names this function.
+/// How many bytes of files it went over, or files it opened. host/speed/counts names this function.
 #[inline(never)]
 fn counted_job(service: Service, job: &mut Job) -> usize {
     match job {
@@ -56,6 +79,7 @@ fn counted_job(service: Service, job: &mut Job) -> usize {
             service.survey(image, lists);
             lists[0].len() / 2 * flex::DATA
         }
+        Job::Open(image, tables) => service.open_all(image, tables),
         Job::Fill(buffers) => service.fill(buffers),
         Job::Read(buffers) => service.read(buffers),
         Job::Load(buffers, sectors) => service.load(buffers, sectors) * flex::DATA,

@@ -89,6 +89,11 @@ impl Service {
         sectors.iter().enumerate().map(is_stored).take_while(|&done| done).count()
     }
 
+    /// Opens a file for read in each table; how many were.
+    pub fn open_all(&self, image: &mut [u8], tables: &mut [Vec<u8>]) -> usize {
+        tables.iter_mut().map(|table| (self.call)(image, table, 0, 0)).filter(|&answer| answer == 0).count()
+    }
+
     /// Takes the census of a diskette that has to be sound.
     pub fn survey(&self, image: &[u8], [sectors, owners]: &mut [Vec<u8>; 2]) {
         assert_eq!((self.census)(image, sectors, owners), 0, "the census refused");
@@ -170,6 +175,37 @@ pub fn half_full(last: usize, per: usize) -> Vec<u8> {
         (0..flex::BLOCKS).try_fold(0, |_, fcb| diskette.ask(fcb, flex::CLOSE))
     };
     worked(blank(last, per), work).0
+}
+
+/// The `n`-th of many files.
+fn numbered(n: usize) -> Name {
+    let mut name = *b"FILE\0\0\0\0DAT";
+    name[4..8].copy_from_slice(format!("{:04}", n).as_bytes());
+    Name::of(name)
+}
+
+/// The image of a diskette with this many files of one sector: where track 0 has no slot left, the directory takes sectors.
+pub fn with_files(last: usize, per: usize, files: usize) -> Vec<u8> {
+    let work = |diskette: &mut Diskette| {
+        (0..files).try_for_each(|n| diskette.put(&numbered(n), &[n as u8], DATE))?;
+        Ok(0)
+    };
+    worked(blank(last, per), work).0
+}
+
+/// How many files of a diskette with many are opened.
+pub const OPENED: usize = 10;
+
+/// The same image, and a table for each of ten files, evenly spread over the directory, the last one among them: its name stands in
+/// block 0, and the next call opens it for read.
+pub fn to_open(last: usize, per: usize, files: usize) -> (Vec<u8>, Vec<Vec<u8>>) {
+    let table = |i: usize| {
+        let mut diskette = Diskette::new(Vec::new());
+        let name = numbered((i + 1) * files / OPENED - 1);
+        diskette.name(0, &name).and_then(|()| diskette.choose(0, flex::OPEN_READ)).expect("block 0 is closed");
+        diskette.into_buffers().1
+    };
+    (with_files(last, per, files), (0..OPENED).map(table).collect())
 }
 
 /// An image to format, all of it zero.

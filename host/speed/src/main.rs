@@ -1,7 +1,7 @@
 //! Measures the proved archive beside the straightforward Rust of the reference, on equal buffers.
 //!
-//! `speed [ROUNDS]` times both in one run; host/bench calls it. `speed count SERVICE JOB M S` does one job once, for a tool that
-//! counts the instructions of it; host/speed/counts calls that, and host/test fails when the archive takes too many.
+//! `speed [ROUNDS]` times both in one run; host/bench calls it. `speed count SERVICE JOB M S [FILES]` does one job once, for a tool
+//! that counts the instructions of it; host/speed/counts calls that, and host/test fails when the archive takes too many.
 
 #![forbid(unsafe_code)]
 
@@ -13,7 +13,8 @@ use std::env;
 use std::process::ExitCode;
 
 const USAGE: &str = "usage: speed [ROUNDS]
-       speed count proved|plain census|fill|read|load|store|format M S";
+       speed count proved|plain census|fill|read|load|store|format M S
+       speed count proved|plain census|open M S FILES";
 
 fn main() -> ExitCode {
     let words: Vec<String> = env::args().skip(1).collect();
@@ -29,7 +30,7 @@ fn main() -> ExitCode {
 fn measured(words: &[&str]) -> Option<()> {
     match words {
         [] => times::all(30),
-        ["count", service, job, last, per] => count::one(service, job, last, per)?,
+        ["count", service, job, last, per, files @ ..] => count::one(service, job, last, per, files)?,
         [rounds] => times::all(rounds.parse().ok().filter(|&rounds| rounds > 0)?),
         _ => return None,
     }

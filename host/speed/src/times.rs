@@ -1,10 +1,12 @@
 //! The times of both services. A diskette of 35 tracks of 10 sectors, of which 34 tracks hold data, is filled by single calls
 //! and read back, and its sectors are loaded and stored one by one; a census is taken of it, of the smallest diskette and of the
-//! largest, and the largest is formatted. The two services take turns, every round starts from buffers that are cleared and
+//! largest, and the largest is formatted. On the largest there are then up to 2,000 files, for which its directory has grown: some
+//! are opened by name, and a census is taken. The two services take turns, every round starts from buffers that are cleared and
 //! made anew, and of all rounds the quickest counts, since what else the machine does can only slow one down.
 
 use crate::jobs::{
-    data_sectors, files, half_full, outputs, to_fill, to_format, to_load, to_read, Buffers, Service, PLAIN, PROVED,
+    data_sectors, files, half_full, outputs, to_fill, to_format, to_load, to_open, to_read, with_files, Buffers,
+    Service, OPENED, PLAIN, PROVED,
 };
 use std::time::{Duration, Instant};
 
@@ -13,9 +15,24 @@ pub fn all(rounds: usize) {
     println!("time for a sector, best of {} rounds          libflex.a  plain Rust   ratio", rounds);
     transfers(rounds, 34, 10);
     for (last, per) in [(1, 5), (34, 10), (79, 36)] {
-        censuses(rounds, last, per);
+        let what = format!("census of {}×{}, {} files, half full", last, per, files(last, per));
+        censuses(rounds, &what, &half_full(last, per), last * per);
     }
     formats(rounds, 79, 36);
+    let few = crowded_census(rounds, 79, 36, 200);
+    let many = crowded_census(rounds, 79, 36, 2000);
+    println!("time for an open by name");
+    for files in [10, 100, 2000] {
+        opens(rounds, 79, 36, files);
+    }
+    let factor = many.as_secs_f64() / few.as_secs_f64();
+    println!("libflex.a's census of 2,000 files takes {:.1} times that of 200", factor);
+}
+
+/// Of files of one sector; the time of the proved service.
+fn crowded_census(rounds: usize, last: usize, per: usize, files: usize) -> Duration {
+    let what = format!("census of {}×{}, {} files", last, per, files);
+    censuses(rounds, &what, &with_files(last, per, files), last * per)
 }
 
 fn transfers(rounds: usize, last: usize, per: usize) {
@@ -64,20 +81,20 @@ fn timed<T>(work: impl FnOnce() -> T) -> (Duration, T) {
     (began.elapsed(), done)
 }
 
-fn censuses(rounds: usize, last: usize, per: usize) {
-    let image = half_full(last, per);
+/// Prints a row, and gives the time of the proved service.
+fn censuses(rounds: usize, what: &str, image: &[u8], data_sectors: usize) -> Duration {
     let mut best = [Duration::MAX; 2];
     let mut lists = [outputs(0), outputs(0)];
     for _ in 0..rounds {
         for (i, service) in [PROVED, PLAIN].iter().enumerate() {
-            let (time, list) = census(*service, &image, last * per);
+            let (time, list) = census(*service, image, data_sectors);
             best[i] = best[i].min(time);
             lists[i] = list;
         }
         assert!(lists[0] == lists[1], "the two censuses differ");
     }
-    let what = format!("census of {}×{}, {} files, half full", last, per, files(last, per));
-    print_row(&what, last * per, best[0], best[1]);
+    print_row(what, data_sectors, best[0], best[1]);
+    best[0]
 }
 
 /// The time of one census, and its two lists. That of a small diskette is taken several times over, since looking at the clock
@@ -90,6 +107,25 @@ fn census(service: Service, image: &[u8], data_sectors: usize) -> (Duration, [Ve
         service.survey(image, &mut lists);
     }
     (began.elapsed() / times, lists)
+}
+
+/// Each service has an image of its own, which no open for read changes, and tables that are made anew before each round.
+fn opens(rounds: usize, last: usize, per: usize, files: usize) {
+    let (image, tables) = to_open(last, per, files);
+    let mut images = [image.clone(), image.clone()];
+    let mut best = [Duration::MAX; 2];
+    for _ in 0..rounds {
+        let mut after = [Vec::new(), Vec::new()];
+        for (i, service) in [PROVED, PLAIN].iter().enumerate() {
+            after[i] = tables.clone();
+            let (time, opened) = timed(|| service.open_all(&mut images[i], &mut after[i]));
+            assert_eq!(opened, OPENED, "not all files were opened");
+            best[i] = best[i].min(time);
+        }
+        assert!(after[0] == after[1], "the two services' tables differ");
+    }
+    assert!(images.iter().all(|after| *after == image), "an open for read has changed the diskette");
+    print_row(&format!("open by name on {}×{}, {} files", last, per, files), OPENED, best[0], best[1]);
 }
 
 /// Each service has an image of its own, cleared before each round.

@@ -7,6 +7,6 @@ pub has-place-spec : {M : Type 1} → statement M
 has-place-spec =
     tie.close
     (tie.spec
-    (λ c. search needs) (λ c κs. search needs) (λ c. search needs) (λ c κs. search needs) (λ c. search needs)
-    (λ c. search needs) (λ c κs. search needs) (λ c. search place-track) (λ c. search needs) (λ c. search needs)
-    (λ c. search place-sector) (λ c. search needs) (λ c. search place-last))
+    (λ c κs. search needs) (λ c. search needs) (λ c κs. search needs) (λ c. search needs) (λ c κs. search needs)
+    (λ c. search needs) (λ c. search needs) (λ c κs. search needs) (λ c. search needs) (λ c. search place-track)
+    (λ c. search needs) (λ c. search place-sector) (λ c. search needs) (λ c. search place-last))

@@ -7,10 +7,10 @@ use Rattle.blocks.proofs.in_use.Statement.{statement}
 use Rattle.blocks.proofs.in_use.Tie as tie
 
 abbrev Inv-loop : tie.InvT-loop
-Inv-loop readers table slot left₀ left = inUse readers table (placeOf slot) ≡ usedBelow readers table (placeOf slot) left
+Inv-loop readers table per slot left₀ left = inUse readers table (placeOf per slot) ≡ usedBelow readers table (placeOf per slot) left
 
 abbrev μ-loop : tie.MeasureT-loop
-μ-loop readers table slot left₀ left = left
+μ-loop readers table per slot left₀ left = left
 
 pub in-use-spec : {M : Type 1} → statement M
 unfolding inUse

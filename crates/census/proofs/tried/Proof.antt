@@ -8,5 +8,6 @@ pub tried-spec : {M : Type 1} → statement M
 tried-spec =
     tie.close
     (tie.spec
-    (λ c κs. search needs) (λ c. search (tried-directory, not-true)) (λ c κs. search needs) (λ c. search (tried-twins, not-false))
-    (λ c κs. search needs) (λ c. search needs) (λ c. search needs) (λ c. search (tried-chains, not-false)))
+    (λ c κs. search needs) (λ c. search (tried-directory, not-true)) (λ c κs. search needs) (λ c. search needs)
+    (λ c. search (tried-twins, not-false, needs)) (λ c κs. search needs) (λ c. search needs) (λ c. search needs)
+    (λ c. search (tried-chains, not-false)))

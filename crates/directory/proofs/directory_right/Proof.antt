@@ -6,10 +6,10 @@ use Rattle.directory.proofs.directory_right.Statement.{statement}
 use Rattle.directory.proofs.directory_right.Tie as tie
 
 abbrev Inv-loop : tie.InvT-loop
-Inv-loop image per left₀ k₀ left k = directoryRight image per ≡ ends image per left k
+Inv-loop image last per left₀ k₀ left k = directoryRight image last per ≡ ends image last per left k
 
 abbrev μ-loop : tie.MeasureT-loop
-μ-loop image per left₀ k₀ left k = left
+μ-loop image last per left₀ k₀ left k = left
 
 pub directory-right-spec : {M : Type 1} → statement M
 directory-right-spec =

@@ -1,6 +1,6 @@
 use Rattle.laws.specs.Tests.{tests}
 use Rattle.rules.specs.Bytes.{within}
-use Rattle.rules.specs.Directory.{isDisplacement}
+use Rattle.laws.specs.Slots.{isDisplacement}
 use Rattle.directory.proofs.is_displacement.Statement.{statement}
 use Rattle.directory.proofs.is_displacement.Tie as tie
 

@@ -6,10 +6,10 @@ use Rattle.directory.proofs.is_member.Statement.{statement}
 use Rattle.directory.proofs.is_member.Tie as tie
 
 abbrev Inv-loop : tie.InvT-loop
-Inv-loop image per x left₀ k₀ left k = member x (directory image per) ≡ member x (sectorsFrom image per left k)
+Inv-loop image last per x left₀ k₀ left k = member x (directory image last per) ≡ member x (sectorsFrom image last per left k)
 
 abbrev μ-loop : tie.MeasureT-loop
-μ-loop image per x left₀ k₀ left k = left
+μ-loop image last per x left₀ k₀ left k = left
 
 pub is-member-spec : {M : Type 1} → statement M
 is-member-spec =

@@ -9,15 +9,16 @@ use Rattle.directory.proofs.scan.Statement.{statement}
 use Rattle.directory.proofs.scan.Tie as tie
 
 abbrev Inv-loop : tie.InvT-loop
-Inv-loop free image per table at left₀ slot₀ left slot = scan (looked free image (part table at 11)) (slots image per) ≡ scan (looked free image (part table at 11)) (visits image per left slot)
+Inv-loop free image last per table at end third left₀ slot₀ left slot = scan (looked free image (part table at 11)) (slots image last per) ≡ scan (looked free image (part table at 11)) (visits image last per left slot)
 
 abbrev μ-loop : tie.MeasureT-loop
-μ-loop free image per table at left₀ slot₀ left slot = left
+μ-loop free image last per table at end third left₀ slot₀ left slot = left
 
 pub scan-spec : {M : Type 1} → statement M
 scan-spec =
     tie.close
     (tie.spec
-    Inv-loop μ-loop (λ c κs. search needs) (λ c. search scan-first) (λ c κs. search needs) (λ c. search scan-here)
-    (λ c κs. search needs) (λ c. search needs) (λ c. search needs) (λ c. search scan-last) (λ c. search needs)
-    (λ c. search scan-broken) (λ c. search needs) (λ c. search needs) (λ c. search scan-next) (λ c. search scan-none))
+    Inv-loop μ-loop (λ c κs. search needs) (λ c κs. search needs) (λ c κs. search needs) (λ c. search scan-first)
+    (λ c κs. search needs) (λ c. search scan-here) (λ c κs. search needs) (λ c. search needs) (λ c. search needs)
+    (λ c. search scan-last) (λ c. search needs) (λ c. search scan-broken) (λ c. search needs) (λ c. search needs)
+    (λ c. search scan-next) (λ c. search scan-none))

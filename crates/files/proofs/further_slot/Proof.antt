@@ -1,6 +1,5 @@
 use Rattle.files.specs.Parts.{slotAfter, furtherSlot}
 use Rattle.laws.specs.Settled.{slot-on, slot-missing, slot-broken}
-use Rattle.files.proofs.Laws.{placed-loaded}
 use borrow.Author.Needs.{needs}
 use Rattle.files.proofs.further_slot.Statement.{statement}
 use Rattle.files.proofs.further_slot.Tie as tie
@@ -10,8 +9,6 @@ unfolding furtherSlot slotAfter
 further-slot-spec =
     tie.close
     (tie.spec
-    (λ c. search needs) (λ c κs. search needs) (λ c. search needs) (λ c. search needs) (λ c κs. search needs)
     (λ c κs. search needs) (λ c. search needs) (λ c κs. search needs) (λ c. search needs) (λ c κs. search needs)
-    (λ c. search needs) (λ c κs. search needs) (λ c. search needs) (λ c. search (slot-on, placed-loaded))
-    (λ c. search needs) (λ c. search (slot-missing, placed-loaded)) (λ c. search needs)
-    (λ c. search (slot-broken, placed-loaded)))
+    (λ c. search needs) (λ c κs. search needs) (λ c. search needs) (λ c. search slot-on) (λ c. search needs)
+    (λ c. search slot-missing) (λ c. search needs) (λ c. search slot-broken))

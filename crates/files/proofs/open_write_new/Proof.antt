@@ -1,5 +1,5 @@
 use Rattle.files.specs.Parts.{openWriteNew}
-use Rattle.laws.specs.Settled.{slot-on, slot-missing, slot-broken}
+use Rattle.files.proofs.Laws.{else-slot, else-other, else-broken}
 use borrow.Author.Needs.{needs}
 use Rattle.files.proofs.open_write_new.Statement.{statement}
 use Rattle.files.proofs.open_write_new.Tie as tie
@@ -10,6 +10,6 @@ open-write-new-spec =
     tie.close
     (tie.spec
     (λ c κs. search needs) (λ c. search needs) (λ c κs. search needs) (λ c. search needs) (λ c κs. search needs)
-    (λ c. search needs) (λ c κs. search needs) (λ c. search needs) (λ c. search needs) (λ c. search slot-on)
-    (λ c. search needs) (λ c. search needs) (λ c. search slot-missing) (λ c. search needs) (λ c. search needs)
-    (λ c. search slot-broken))
+    (λ c. search needs) (λ c κs. search needs) (λ c. search needs) (λ c. search needs) (λ c. search else-slot)
+    (λ c. search needs) (λ c. search needs) (λ c. search else-other) (λ c. search needs) (λ c. search needs)
+    (λ c. search else-broken))

@@ -1,4 +1,5 @@
 use mathlib.Core.Path.{sym}
+use native.Mathlib.Omega.{arith}
 use borrow.Author.Needs.{needs}
 use Rattle.laws.specs.Bytes.{over-one, over-out}
 use Rattle.outputs.proofs.place.Statement.{statement}
@@ -8,5 +9,5 @@ pub place-spec : {M : Type 1} → statement M
 place-spec =
     tie.close
     (tie.spec
-    (λ c. search needs) (λ c. search needs) (λ c. search needs) (λ c. sym (over-one _ _ _))
-    (λ c. sym (over-out _ _ _ (c .if1 .left))))
+    (λ c. sym (over-out _ _ _ (omega arith))) (λ c. search needs) (λ c. sym (over-out _ _ _ (omega arith)))
+    (λ c. search needs) (λ c. search needs) (λ c. search needs) (λ c. search needs) (λ c. sym (over-one _ _ _)))

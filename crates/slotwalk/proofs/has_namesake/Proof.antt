@@ -7,10 +7,10 @@ use Rattle.slotwalk.proofs.has_namesake.Statement.{statement}
 use Rattle.slotwalk.proofs.has_namesake.Tie as tie
 
 abbrev Inv-loop : tie.InvT-loop
-Inv-loop image per this first count left₀ slot₀ left slot = namesake image this (visits image per count first) ≡ namesake image this (visits image per left slot)
+Inv-loop image last per this first count left₀ slot₀ left slot = namesake image this (visits image last per count first) ≡ namesake image this (visits image last per left slot)
 
 abbrev μ-loop : tie.MeasureT-loop
-μ-loop image per this first count left₀ slot₀ left slot = left
+μ-loop image last per this first count left₀ slot₀ left slot = left
 
 pub has-namesake-spec : {M : Type 1} → statement M
 has-namesake-spec =

@@ -1,23 +1,12 @@
-use mathlib.Core.Path.{_≡_}
 use borrow.Author.Needs.{needs}
-use Rattle.rules.specs.Directory.{slots}
-use Rattle.rules.specs.Census.{twins}
-use Rattle.laws.specs.Visits.{visits}
-use Rattle.slotwalk.proofs.Laws.{twins-first, twins-none, twins-last, twins-broken, twins-here, twins-next}
+use Rattle.census_laws.specs.Table.{seen-once, seen-twice}
 use Rattle.slotwalk.proofs.has_twins.Statement.{statement}
 use Rattle.slotwalk.proofs.has_twins.Tie as tie
-
-abbrev Inv-loop : tie.InvT-loop
-Inv-loop image per left₀ slot₀ left slot = twins image (slots image per) ≡ twins image (visits image per left slot)
-
-abbrev μ-loop : tie.MeasureT-loop
-μ-loop image per left₀ slot₀ left slot = left
 
 pub has-twins-spec : {M : Type 1} → statement M
 has-twins-spec =
     tie.close
     (tie.spec
-    Inv-loop μ-loop (λ c κs. search needs) (λ c. search twins-first) (λ c κs. search needs) (λ c. search needs)
-    (λ c. search needs) (λ c κs. search needs) (λ c. search twins-here) (λ c. search needs) (λ c. search twins-last)
-    (λ c. search needs) (λ c. search twins-broken) (λ c. search needs) (λ c. search needs) (λ c. search twins-next)
-    (λ c. search twins-none))
+    (λ c κs. search needs) (λ c κs. search needs) (λ c. search needs) (λ c. search needs) (λ c. search needs)
+    (λ c κs. search needs) (λ c. search needs) (λ c. search seen-once) (λ c. search needs) (λ c. search seen-twice)
+    (λ c. search needs) (λ c. search needs))

@@ -1,12 +1,10 @@
-use Rattle.taking.specs.Take.{planOf}
+use Rattle.taking.proofs.Laws.{plan-made}
 use borrow.Author.Needs.{needs}
 use Rattle.taking.proofs.plan_of.Statement.{statement}
 use Rattle.taking.proofs.plan_of.Tie as tie
 
 pub plan-of-spec : {M : Type 1} → statement M
-unfolding planOf
 plan-of-spec =
     tie.close
     (tie.spec
-    (λ c κs. search needs) (λ c κs. search needs) (λ c κs. search needs) (λ c κs. search needs) (λ c κs. search needs)
-    (λ c κs. search needs) (λ c κs. search needs) (λ c. cc))
+    (λ c κs. search needs) (λ c κs. search needs) (λ c κs. search needs) (λ c. search plan-made))

@@ -1,4 +1,4 @@
-//! One chain, walked by its links as far as they are right.
+//! The free chain or a file's, walked by its links as far as they are right.
 
 use super::sectors::{holder, Owner};
 use super::Finding;
@@ -7,7 +7,7 @@ use flex::{Address, Shape, Slot};
 /// Where the information record begins in an image.
 const INFORMATION: usize = 512;
 
-/// What the information record or a slot states of a chain.
+/// What the information record or a slot states of a chain. Nothing states the directory: it is no `Chain`.
 pub struct Chain {
     pub owner: Owner,
     pub start: Address,
@@ -82,8 +82,8 @@ impl Chain {
 
     pub fn finding(&self, fault: Fault, slots: &[Slot]) -> Finding {
         let (number, owners) = match self.owner {
-            Owner::Free => (44, vec![]),
             Owner::File(slot) => (45, vec![slot]),
+            _ => (44, vec![]),
         };
         let text = format!("{}: {}", holder(self.owner, slots), self.words(fault));
         let at = fault.place().unwrap_or_else(|| self.stated_in(slots));
@@ -93,8 +93,8 @@ impl Chain {
     /// The sector that states this chain: the information record's, or the one with the file's slot.
     fn stated_in(&self, slots: &[Slot]) -> Address {
         match self.owner {
-            Owner::Free => Address::new(0, 3),
             Owner::File(slot) => slots[slot - 1].place.sector,
+            _ => Address::new(0, 3),
         }
     }
 

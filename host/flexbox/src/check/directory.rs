@@ -23,8 +23,9 @@ pub fn walk(image: &[u8], shape: Shape) -> (Vec<Address>, Vec<Finding>) {
 }
 
 fn wrong(shape: Shape, before: &[Address], next: Address) -> Option<String> {
-    if next.track != 0 || !(5..=shape.per).contains(&next.sector) {
-        return Some(format!("which is not on track 0 in sectors 5 to {}", shape.per));
+    let is_on_track_0 = next.track == 0 && (5..=shape.per).contains(&next.sector);
+    if !is_on_track_0 && !shape.is_data(next) {
+        return Some(format!("which is neither on track 0 in sectors 5 to {} nor a data sector", shape.per));
     }
     before.contains(&next).then(|| "back to a sector before it".to_string())
 }

@@ -41,7 +41,7 @@ pub struct Check {
     pub slots: Vec<Slot>,
     /// The directory's sectors as far as its links are right.
     pub directory: Vec<Address>,
-    /// The free chain and the files', each with its sectors as far as its links are right.
+    /// The free chain, the data sectors of the directory, and the files' chains, each as far as its links are right.
     pub chains: Vec<(Owner, Vec<Address>)>,
 }
 
@@ -63,12 +63,19 @@ pub fn check(diskette: &mut Diskette) -> Result<Check, Refusal> {
         findings.extend(walked.fault.map(|fault| chain.finding(fault, &slots)));
         chains.push((chain.owner, walked.sectors));
     }
+    // The census lists them behind the free chain, which is the first.
+    chains.insert(1, (Owner::Directory, taken(&directory).collect()));
     let owners = sectors::owners(shape, &chains);
     findings.extend(sectors::shared(shape, &owners, &slots));
     if directory_is_right {
         findings.extend(sectors::lost(shape, &owners));
     }
     Ok(Check { shape, verdict, findings, slots, directory, chains })
+}
+
+/// The data sectors among those of the directory: it has taken them when it had no slot left.
+fn taken(directory: &[Address]) -> impl Iterator<Item = Address> + '_ {
+    directory.iter().copied().filter(|address| address.track != 0)
 }
 
 /// The free chain, then the live files', as they are stated.
@@ -87,7 +94,16 @@ impl Check {
     }
 
     pub fn free_sectors(&self) -> usize {
-        self.chains.iter().filter(|(owner, _)| *owner == Owner::Free).map(|(_, sectors)| sectors.len()).sum()
+        self.sectors_of(Owner::Free)
+    }
+
+    /// How many data sectors the directory has.
+    pub fn directory_sectors(&self) -> usize {
+        self.sectors_of(Owner::Directory)
+    }
+
+    fn sectors_of(&self, wanted: Owner) -> usize {
+        self.chains.iter().filter(|(owner, _)| *owner == wanted).map(|(_, sectors)| sectors.len()).sum()
     }
 
     /// Whether it is known which files there are: the service lists no slots of a directory that is not right.

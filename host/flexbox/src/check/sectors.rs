@@ -1,4 +1,4 @@
-//! Each data sector in one chain (46): who holds it, which are shared, which are lost.
+//! Each data sector in one chain (46), the directory among them: who holds it, which are shared, which are lost.
 
 use super::Finding;
 use flex::{Address, Shape, Slot};
@@ -6,6 +6,8 @@ use flex::{Address, Shape, Slot};
 #[derive(Clone, Copy, Debug, PartialEq, Eq)]
 pub enum Owner {
     Free,
+    /// The directory, which has taken it.
+    Directory,
     /// The file of this slot.
     File(usize),
 }
@@ -25,6 +27,7 @@ pub fn owners(shape: Shape, chains: &[(Owner, Vec<Address>)]) -> Vec<Vec<Owner>>
 pub fn holder(owner: Owner, slots: &[Slot]) -> String {
     match owner {
         Owner::Free => "the free chain".to_string(),
+        Owner::Directory => "the directory".to_string(),
         Owner::File(number) => file(&slots[number - 1]),
     }
 }
@@ -57,7 +60,7 @@ fn sharing(shape: Shape, holders: &[Owner], sectors: &[usize], slots: &[Slot]) -
     }
     let text = format!("{} held by {}", ranges(shape, sectors), names.join(" and by "));
     let files = holders.iter().filter_map(|owner| match owner {
-        Owner::Free => None,
+        Owner::Free | Owner::Directory => None,
         Owner::File(number) => Some(*number),
     });
     Finding { number: 46, slots: files.collect(), sectors: addresses(shape, sectors), text }

@@ -3,6 +3,7 @@
 
 use super::*;
 use diskettes::{blank, offset};
+use flex::Steps;
 
 /// Numbers that look random and are the same every time.
 struct Numbers(u64);
@@ -20,14 +21,29 @@ impl Numbers {
     }
 }
 
-/// A.TXT has two sectors, B.TXT three, C.TXT one; one was deleted.
-fn in_use(last: usize, per: usize) -> Vec<u8> {
+/// A.TXT has two sectors, B.TXT three, C.TXT one; one was deleted. Where it is crowded, there are as many files before them as
+/// track 0 has slots, all but one of them gone again, and the directory has taken a sector.
+fn in_use(last: usize, per: usize, is_crowded: bool) -> Vec<u8> {
     let mut diskette = Diskette::new(blank(last, per));
+    if is_crowded {
+        crowd(&mut diskette, 10 * (per - 4));
+    }
     for (name, sectors) in [("A", 2), ("OLD", 1), ("B", 3), ("C", 1)] {
         diskette.put(&name.parse().unwrap(), &vec![7; sectors * 252], [1, 2, 3]).unwrap();
     }
     diskette.delete(&"OLD".parse().unwrap()).unwrap();
     diskette.image().to_vec()
+}
+
+/// The last file stays, in the first slot of the sector that the directory takes for it.
+fn crowd(diskette: &mut Diskette, slots: usize) {
+    let name = |n: usize| format!("N{}", n).parse().unwrap();
+    for n in 0..=slots {
+        // Closed by a restart and not by a call, so that it stays without a sector.
+        diskette.create(0, &name(n), [1, 2, 3]).unwrap();
+        *diskette = Diskette::new(diskette.image().to_vec());
+    }
+    (0..slots).for_each(|n| diskette.delete(&name(n)).unwrap());
 }
 
 /// One or two bytes changed where it hurts.
@@ -42,7 +58,7 @@ fn damage(image: &mut [u8], numbers: &mut Numbers, last: usize, per: usize) {
         2 => image[slot] = numbers.one_of(b"\0\xffABC"),
         3 => image[slot + 13 + 2 * numbers.below(2)..][..2].copy_from_slice(&address),
         4 => image[slot + 17 + numbers.below(2)] = numbers.below(6) as u8,
-        5 => image[offset(per, 0, 5 + numbers.below(per - 4))..][..2].copy_from_slice(&[0, address[1]]),
+        5 => image[offset(per, 0, 5 + numbers.below(per - 4))..][..2].copy_from_slice(&address),
         _ => image[offset(per, track, sector)..][..2].copy_from_slice(&address),
     }
 }
@@ -53,7 +69,8 @@ fn the_first_finding_is_the_verdict() {
     let mut seen = [0; 47];
     for _ in 0..40_000 {
         let (last, per) = numbers.one_of(&[(2, 5), (1, 9), (3, 6), (2, 8)]);
-        let mut image = in_use(last, per);
+        let is_crowded = numbers.below(2) == 0;
+        let mut image = in_use(last, per, is_crowded);
         for _ in 0..1 + numbers.below(3) {
             damage(&mut image, &mut numbers, last, per);
         }
@@ -100,6 +117,11 @@ fn a_finding_says_where() {
     assert_eq!(hole, ["2 sectors (1,1 to 1,2) are in no chain"]);
     let loose = said(&[(1024, &[0, 5])]);
     assert_eq!(loose, ["directory: its sector 0,5 links to 0,5, back to a sector before it"]);
+    let astray = said(&[(1024, &[1, 6])]);
+    let why = "which is neither on track 0 in sectors 5 to 5 nor a data sector";
+    assert_eq!(astray, [format!("directory: its sector 0,5 links to 1,6, {}", why)]);
+    let into_a = said(&[(1024, &[1, 2])]);
+    assert!(into_a.contains(&format!("sector 1,2 is held by the directory and by {}", a)), "{:?}", into_a);
     let free = said(&[(541, &[1, 3]), (546, &[1])]);
     assert_eq!(free[0], "the free chain: sector 1 of 1 is at 1,3, but its stated end is 0,0");
     assert_eq!(free[1], format!("sector 1,3 is held by the free chain and by {}", b));

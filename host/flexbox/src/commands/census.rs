@@ -5,7 +5,7 @@ use super::{change, letter, look, plural, print, print_json, refused_of};
 use crate::failure::Failure;
 use crate::json;
 use crate::words::Words;
-use flex::{Diskette, Held, Refusal, Shape, Slot};
+use flex::{Diskette, Held, Refusal, Shape, Slot, OWNER_DIRECTORY, OWNER_FREE};
 use std::fmt::Write;
 
 pub fn run(words: &Words) -> Result<(), Failure> {
@@ -33,6 +33,10 @@ fn not_accepted(words: &Words, diskette: &mut Diskette, refusal: Refusal) -> Fai
     Failure::Shown
 }
 
+/// The sign of a free sector, and of one that the directory has taken. No file has them.
+const FREE: char = '.';
+const DIRECTORY: char = '=';
+
 /// A picture of the diskette: a line a track, a sign a sector, then the files with their letters.
 fn as_text(shape: Shape, held: &[Held], slots: &[Slot]) -> String {
     let signs = signs(slots);
@@ -42,14 +46,17 @@ fn as_text(shape: Shape, held: &[Held], slots: &[Slot]) -> String {
         let size = plural(entry.sectors as usize, "sector");
         let _ = writeln!(text, "{}  {:12}  {}", signs[slot.number], entry.name, size);
     }
-    let free = held.iter().filter(|held| held.owner == 0).count();
-    let _ = writeln!(text, ".  free          {}", plural(free, "sector"));
+    let count = |owner: u16| held.iter().filter(|held| held.owner == owner).count();
+    if count(OWNER_DIRECTORY) > 0 {
+        let _ = writeln!(text, "{}  directory     {}", DIRECTORY, plural(count(OWNER_DIRECTORY), "sector"));
+    }
+    let _ = writeln!(text, "{}  free          {}", FREE, plural(count(OWNER_FREE), "sector"));
     text
 }
 
-/// The sign of each owner: '.' for 0, then by slot.
+/// The sign of each slot, by its number; at 0 that of a free sector.
 fn signs(slots: &[Slot]) -> Vec<char> {
-    let mut signs = vec!['.'; slots.len() + 1];
+    let mut signs = vec![FREE; slots.len() + 1];
     for (i, (slot, _)) in live(slots).enumerate() {
         signs[slot.number] = letter(i);
     }
@@ -60,7 +67,10 @@ fn signs(slots: &[Slot]) -> Vec<char> {
 fn map(held: &[Held], signs: &[char], per: usize) -> String {
     let mut sectors = vec!['?'; held.len()];
     for one in held {
-        sectors[one.sector as usize] = signs[one.owner as usize];
+        sectors[one.sector as usize] = match one.owner {
+            OWNER_DIRECTORY => DIRECTORY,
+            owner => signs[owner as usize],
+        };
     }
     let mut text = String::from("track  sectors 1 to ");
     let _ = writeln!(text, "{}", per);
@@ -91,8 +101,9 @@ mod tests {
 
     #[test]
     fn the_map_has_a_sign_a_sector() {
-        let held: Vec<Held> =
-            [(1, 0), (0, 1), (3, 3), (2, 3)].iter().map(|&(sector, owner)| Held { sector, owner }).collect();
-        assert_eq!(map(&held, &['.', 'A', '-', 'B'], 2), "track  sectors 1 to 2\n    1  A.\n    2  BB\n");
+        let held = [(1, 0), (4, OWNER_DIRECTORY), (0, 1), (3, 3), (2, 3), (5, 3)]
+            .map(|(sector, owner)| Held { sector, owner });
+        let text = "track  sectors 1 to 2\n    1  A.\n    2  BB\n    3  =B\n";
+        assert_eq!(map(&held, &['.', 'A', '-', 'B'], 2), text);
     }
 }

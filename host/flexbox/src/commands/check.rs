@@ -49,7 +49,11 @@ fn last_line(words: &Words, check: &Check) -> String {
     match check.verdict {
         Ok(()) => {
             let files = plural(check.files().unwrap_or_default(), "file");
-            format!("{}: clean, {}, {} of {} sectors used, {} free\n", name, files, all - free, all, free)
+            let taken = match check.directory_sectors() {
+                0 => String::new(),
+                sectors => format!(" ({} by the directory)", sectors),
+            };
+            format!("{}: clean, {}, {} of {} sectors used{}, {} free\n", name, files, all - free, all, taken, free)
         }
         Err(refusal) => {
             let (number, places) = (flex::message(refusal.number()), plural(check.findings.len(), "finding"));
@@ -76,6 +80,7 @@ pub fn as_json(words: &Words, check: &Check) -> String {
         .with("files", json::number(check.files()))
         .with("data_sectors", check.shape.data_sectors())
         .with("free_sectors", check.free_sectors())
+        .with("directory_sectors", check.directory_sectors())
         .with("findings", json::list(findings))
         .end()
 }

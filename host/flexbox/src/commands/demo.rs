@@ -87,7 +87,7 @@ fn work_on_one_in_use(words: &Words) -> Result<(), Failure> {
     let name = typed(NAME)?;
     say(&format!("A diskette that is in use, {}. Its directory:", image.display()))?;
     list::run(words)?;
-    say("Its census: every sector is free or in one file.")?;
+    say("Its census: every sector is free, the directory's or in one file.")?;
     census::run(words)?;
     say(&format!("Write {}, {} bytes, one call a byte:", NAME, LINES.len()))?;
     let date = date::today()?;

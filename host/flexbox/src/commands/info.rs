@@ -66,9 +66,13 @@ fn as_text(words: &Words, record: &Record, check: &Check) -> String {
         0 => "no sector".to_string(),
         count => format!("{} from {} to {}", plural(count as usize, "sector"), record.first_free, record.last_free),
     };
-    let files = match check.files() {
-        Some(files) => format!("{} in {} slots", files, check.slots.len()),
-        None => "not known: the slots can't be listed".to_string(),
+    let files = match (check.files(), check.directory_sectors()) {
+        (Some(files), 0) => format!("{} in {} slots", files, check.slots.len()),
+        (Some(files), taken) => {
+            let sectors = plural(taken, "data sector");
+            format!("{} in {} slots; the directory has taken {}", files, check.slots.len(), sectors)
+        }
+        (None, _) => "not known: the slots can't be listed".to_string(),
     };
     let census = check.verdict.map_or_else(|refusal| refusal.to_string(), |()| "accepted".to_string());
     format!(
@@ -95,6 +99,7 @@ pub fn as_json(words: &Words, record: &Record, check: &Check) -> String {
         .with("last_track", check.shape.last)
         .with("sectors_per_track", check.shape.per)
         .with("data_sectors", check.shape.data_sectors())
+        .with("directory_sectors", check.directory_sectors())
         .with_text("label", &record.label)
         .with("volume", record.volume)
         .with("date", json::date(record.date))

@@ -42,9 +42,10 @@ pub const COMMANDS: &[Command] = &[
         name: "census",
         usage: "[--json] IMAGE",
         summary: "check the diskette; show which file holds each sector",
-        details: "Shows the proved census as a picture: a line a track, a letter a file, a dot for a free sector. With --json its\n\
-                  list: each data sector with its owner, 0 for free, else the slot. A damaged diskette gets no picture, but\n\
-                  its number and where the damage is.\n",
+        details: "Shows the proved census as a picture: a line a track, a letter a file, # for those past the 62nd, a dot for a\n\
+                  free sector, = for one that the directory has taken. With --json its list: each data sector with its owner,\n\
+                  0 for free, 65534 for the directory, else the slot. A damaged diskette gets no picture, but its number and\n\
+                  where the damage is.\n",
         operands: (1, 1),
         options: &["--json"],
         run: census::run,
@@ -70,6 +71,7 @@ pub const COMMANDS: &[Command] = &[
         usage: "[--files] [--replace] [--force] IMAGE NAME.EXT[=FILE]..",
         summary: "make new files",
         details: "Makes a new file of standard input, or of FILE, which must not be empty. Of several files all are made or none.\n\
+                  Where no slot is left, the directory takes a free sector and keeps it.\n\
                   The date is today's by the local time (the variable TZ, or the machine's time zone).\n\
                   \x20 --files    each word is a FILE, and the last part of its path is the name on the diskette\n\
                   \x20 --replace  a file of that name is replaced; it is lost only once the new one is saved. A new file has no\n\
@@ -83,7 +85,7 @@ pub const COMMANDS: &[Command] = &[
         name: "delete",
         usage: "[--force] IMAGE NAME.EXT",
         summary: "delete a file",
-        details: "Deletes the file; its sectors hang behind the free chain.\n\
+        details: "Deletes the file; its sectors hang behind the free chain. Sectors of the directory are never given back.\n\
                   \x20 --force    changes a damaged diskette, too, and says so; sound files may be lost\n",
         operands: (2, 2),
         options: &["--force"],

@@ -45,7 +45,7 @@ pub fn map(check: &Check, signs: &Signs, image: &[u8]) -> String {
 
 const LEGEND: &str = "<p class=\"legend\"><span class=\"key file\">A</span> held by a file \
     <span class=\"key\">·</span> free <span class=\"key lost\">?</span> not known to be in any chain \
-    <span class=\"key system\">D</span> directory and system \
+    <span class=\"key system\">=</span> directory and system <span class=\"key directory\">=</span> taken by the directory \
     <span class=\"key bad\">!</span> damaged here. A row is a track, from 0 on; point at a sector to see who holds it.</p>\n";
 
 /// Numbers of sectors above, of tracks to the left.
@@ -126,6 +126,7 @@ fn classes(cell: &Cell) -> String {
     for (owner, ..) in &cell.holders {
         match owner {
             Owner::Free => text.push_str(" free"),
+            Owner::Directory => text.push_str(" directory"),
             Owner::File(number) => {
                 let _ = write!(text, " slot{}", number);
             }
@@ -138,7 +139,7 @@ fn classes(cell: &Cell) -> String {
 fn face(cell: &Cell, signs: &Signs) -> (String, String) {
     if let Some(system) = cell.system {
         let letter = match system {
-            "directory" => "D",
+            "directory" => "=",
             "boot sector" => "b",
             "information record" => "i",
             _ => "",
@@ -161,6 +162,7 @@ fn told(cell: &Cell, check: &Check) -> String {
     for &(owner, i, of) in &cell.holders {
         let name = match owner {
             Owner::Free => "free chain".to_string(),
+            Owner::Directory => "taken by the directory".to_string(),
             Owner::File(number) => {
                 check.slots[number - 1].entry().map_or(String::new(), |entry| entry.name.to_string())
             }

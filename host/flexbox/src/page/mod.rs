@@ -75,6 +75,7 @@ impl Signs {
     pub fn letter(&self, owner: Owner) -> &str {
         match owner {
             Owner::Free => "·",
+            Owner::Directory => "=",
             Owner::File(_) => self.find(owner).map_or("?", |sign| &sign.1),
         }
     }
@@ -82,6 +83,7 @@ impl Signs {
     pub fn colour(&self, owner: Owner) -> &str {
         match owner {
             Owner::Free => "var(--free)",
+            Owner::Directory => "var(--directory)",
             Owner::File(_) => self.find(owner).map_or("var(--free)", |sign| &sign.2),
         }
     }

@@ -12,9 +12,15 @@ const SLOT_B: usize = SLOT_A + 24;
 
 /// The page of a diskette with A.TXT in 1,1 and 1,2 and B.TXT in 1,3 to 1,5, after some bytes are stored; 1,6 to 2,6 are free.
 fn made(name: &str, stores: &[(usize, &[u8])]) -> String {
+    made_of(&[("A", 2), ("B", 3)], name, stores)
+}
+
+/// The same with these files, each of so many sectors.
+fn made_of(files: &[(&str, usize)], name: &str, stores: &[(usize, &[u8])]) -> String {
     let mut diskette = Diskette::new(diskettes::blank(2, 6));
-    diskette.put(&"A".parse().unwrap(), &[7; 504], [1, 2, 3]).unwrap();
-    diskette.put(&"B".parse().unwrap(), &[7; 756], [1, 2, 3]).unwrap();
+    for (file, sectors) in files {
+        diskette.put(&file.parse().unwrap(), &vec![7; 252 * sectors], [1, 2, 3]).unwrap();
+    }
     let mut image = diskette.image().to_vec();
     for (at, bytes) in stores {
         image[*at..at + bytes.len()].copy_from_slice(bytes);
@@ -96,7 +102,9 @@ fn there_is_a_cell_for_each_sector_and_nothing_from_elsewhere() {
 #[test]
 fn a_sound_diskette_keeps_every_rule() {
     let page = made("disk", &[]);
-    assert!(page.contains("<strong>Sound</strong> The census accepts it: every data sector is free or in one file."));
+    assert!(page.contains(
+        "<strong>Sound</strong> The census accepts it: every data sector is free, the directory&#39;s or in one file."
+    ));
     assert!(!page.contains("Damaged"));
     assert_eq!(rules(&page), "42 kept, 43 kept, 44 kept, 45 kept, 46 kept");
     assert_eq!((said(&page).len(), marked(&page).len()), (0, 0));
@@ -107,7 +115,8 @@ fn a_sound_diskette_keeps_every_rule() {
 fn verdict_42_the_directory() {
     let page = damaged("42, directory not right", &[(1024, &[0, 9])]);
     assert_eq!(rules(&page), "42 broken, 43 unknown, 44 kept, 45 unknown, 46 unknown");
-    let text = "directory: its sector 0,5 links to 0,9, which is not on track 0 in sectors 5 to 6";
+    let text =
+        "directory: its sector 0,5 links to 0,9, which is neither on track 0 in sectors 5 to 6 nor a data sector";
     assert_eq!(said(&page), [format!("<a href=\"#c-0-5\">{}</a>", text)]);
     assert_eq!(marked(&page), ["0-5"]);
     // Which files there are nobody knows, and the page does not say that there is none.
@@ -173,6 +182,28 @@ fn verdict_46_a_shared_and_a_lost_sector() {
     assert!(both.contains(
         "sector 1,5\nA.TXT, sector 2 of 2\nB.TXT, sector 3 of 3\nlinks to 0,0\ndamaged: sector 1,5 is held by"
     ));
+}
+
+#[test]
+fn sectors_that_the_directory_has_taken_are_a_kind_of_their_own() {
+    // Four files, so that the fourth letter is a file's.
+    let files = [("A", 2), ("B", 1), ("C", 1), ("D", 1)];
+    let stores: [(usize, &[u8]); 4] =
+        [(offset(6, 0, 6), &[1, 6]), (offset(6, 1, 6), &[0, 0]), (541, &[2, 1]), (546, &[6])];
+    let page = made_of(&files, "disk", &stores);
+    assert!(page.contains("<strong>Sound</strong>"), "{}", between(&page, "<header>", "</header>")[0]);
+    assert!(page.contains("<span class=\"key system\">=</span> directory and system"));
+    assert!(page.contains("<span class=\"key directory\">=</span> taken by the directory"));
+    let taken: Vec<_> = cells(&page).into_iter().filter(|(_, cell)| cell.starts_with(" directory\"")).collect();
+    assert_eq!(taken.iter().map(|(at, _)| *at).collect::<Vec<_>>(), ["1-6"]);
+    assert!(taken[0].1.contains("sector 1,6\ntaken by the directory, sector 1 of 1\nlinks to 0,0"), "{}", taken[0].1);
+    assert!(taken[0].1.contains("fill:var(--directory)"));
+    let with = |sign: &str| -> Vec<&str> {
+        let sign = format!(">{}</text>", sign);
+        cells(&page).into_iter().filter(|(_, cell)| cell.contains(&sign)).map(|(at, _)| at).collect()
+    };
+    assert_eq!(with("="), ["0-5", "0-6", "1-6"]);
+    assert_eq!(with("D"), ["1-5"]);
 }
 
 #[test]

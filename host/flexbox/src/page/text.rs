@@ -10,16 +10,20 @@ use std::fmt::Write;
 
 /// The rules of the census in words, by its numbers.
 const RULES: [(u8, &str); 5] = [
-    (42, "The directory's links lead through its sectors on track 0 to an end"),
+    (42, "The directory's links lead through sectors 5 and up of track 0 and data sectors to an end"),
     (43, "No two files have one name"),
     (44, "The free chain has as many sectors as it states, to its stated end"),
     (45, "Each file's chain has as many sectors as its slot states, to its stated end"),
-    (46, "Each data sector is free or in one file, and never in two"),
+    (46, "Each data sector is free, the directory's or in one file, and never two of these"),
 ];
 
 pub fn heading(name: &str, check: &Check) -> String {
     let (class, word, words) = match check.verdict {
-        Ok(()) => ("sound", "Sound", "The census accepts it: every data sector is free or in one file.".to_string()),
+        Ok(()) => (
+            "sound",
+            "Sound",
+            "The census accepts it: every data sector is free, the directory's or in one file.".to_string(),
+        ),
         Err(refusal) => {
             let number = flex::message(refusal.number());
             ("damaged", "Damaged", format!("The census refuses it: {}, {}.", number, refusal.meaning()))

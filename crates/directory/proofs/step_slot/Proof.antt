@@ -1,10 +1,10 @@
 use Rattle.directory.proofs.Laws.{next-by, behind-near, behind-end, behind-astray, behind-to}
 use borrow.Author.Needs.{needs}
-use Rattle.directory.proofs.slot_behind.Statement.{statement}
-use Rattle.directory.proofs.slot_behind.Tie as tie
+use Rattle.directory.proofs.step_slot.Statement.{statement}
+use Rattle.directory.proofs.step_slot.Tie as tie
 
-pub slot-behind-spec : {M : Type 1} → statement M
-slot-behind-spec =
+pub step-slot-spec : {M : Type 1} → statement M
+step-slot-spec =
     tie.close
     (tie.spec
     (λ c. search needs) (λ c. search behind-near) (λ c. search needs) (λ c κs. search needs) (λ c κs. search needs)

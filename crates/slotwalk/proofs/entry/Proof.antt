@@ -1,0 +1,10 @@
+use borrow.Author.Needs.{needs}
+use Rattle.laws.specs.Bytes.{byte-out}
+use Rattle.slotwalk.proofs.entry.Statement.{statement}
+use Rattle.slotwalk.proofs.entry.Tie as tie
+
+pub entry-spec : {M : Type 1} → statement M
+entry-spec =
+    tie.close
+    (tie.spec
+    (λ c. search needs) (λ c. search needs) (λ c. search needs) (λ c. search byte-out))
