@@ -1,6 +1,7 @@
 /*
  * A C host: makes the smallest diskette, of five data sectors, writes a file, reads it back, shows what a refusal looks like, and
- * takes the census. It checks what it gets and ends with status 0 if all is as promised.
+ * takes the census. Then a raw write breaks the file's chain, as service staff's programs can, and a repair mends it. It checks
+ * what it gets and ends with status 0 if all is as promised.
  *
  * cc -I host host/example.c target/staticlib/libflex.a -o example
  */
@@ -110,15 +111,41 @@ static void print_owner(int sector, int owner) {
     }
 }
 
-static void take_census(void) {
+/* Its answer; where that is not 0, it has listed nothing. */
+static uint32_t take_census(void) {
     uint8_t sectors[2 * DATA_SECTORS];
     uint8_t owners[2 * DATA_SECTORS];
     int i;
-    if (flex_census(image, sizeof image, sectors, sizeof sectors, owners, sizeof owners) != FLEX_DONE) {
-        fail("the census refused");
-    }
-    for (i = 0; i < DATA_SECTORS; i++) {
+    uint32_t answer = flex_census(image, sizeof image, sectors, sizeof sectors, owners, sizeof owners);
+    for (i = 0; i < DATA_SECTORS && answer == FLEX_DONE; i++) {
         print_owner(256 * sectors[2 * i] + sectors[2 * i + 1], 256 * owners[2 * i] + owners[2 * i + 1]);
+    }
+    return answer;
+}
+
+/* The sector 1,1, which is the file's first, gets a link to 9,9, where no sector is. */
+static void write_raw(void) {
+    flex_preset(table, sizeof table, 0, FLEX_POSITION, 1);
+    flex_preset(table, sizeof table, 0, FLEX_POSITION + 1, 1);
+    if (ask(FLEX_READ_SECTOR) != FLEX_DONE) {
+        fail("a sector was not read");
+    }
+    flex_preset(table, sizeof table, 0, FLEX_BUFFER, 9);
+    flex_preset(table, sizeof table, 0, FLEX_BUFFER + 1, 9);
+    if (ask(FLEX_WRITE_SECTOR) != FLEX_DONE) {
+        fail("a sector was not written");
+    }
+}
+
+/* All blocks are closed by now. The file keeps its first sector, and its second is free again. */
+static void repair(void) {
+    printf("after a raw write: census %lu\n", (unsigned long)take_census());
+    if (flex_repair(image, sizeof image, table, sizeof table) != FLEX_DONE) {
+        fail("repair was refused");
+    }
+    printf("repaired:\n");
+    if (take_census() != FLEX_DONE) {
+        fail("the census refused a repaired diskette");
     }
 }
 
@@ -132,6 +159,10 @@ int main(void) {
     write_file(text);
     read_file(text);
     be_refused();
-    take_census();
+    if (take_census() != FLEX_DONE) {
+        fail("the census refused");
+    }
+    write_raw();
+    repair();
     return 0;
 }

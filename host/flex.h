@@ -12,11 +12,12 @@
  * Nothing else: every length, number and content is allowed, and a wrong one is refused with a number.
  *
  * A refused flex_call changes nothing but byte 1 of its control block, which gets the number; where there is no such block
- * (13) nothing at all. A refused flex_preset, flex_extension, flex_error_text or flex_format changes nothing. flex_census says
- * it below.
+ * (13) nothing at all. A refused flex_preset, flex_extension, flex_error_text, flex_format or flex_repair changes nothing.
+ * flex_census says it below.
  *
  * Link: cc -I host program.c target/staticlib/libflex.a
- * A census takes less than 12,000 bytes of stack, a call or a format less than 1,000. docs/HOST.md has the rest.
+ * A census takes less than 12,000 bytes of stack, a repair less than 6,500, a call or a format less than 1,000. docs/HOST.md has
+ * the rest.
  */
 #ifndef FLEX_H
 #define FLEX_H
@@ -29,8 +30,8 @@ extern "C" {
 #endif
 
 /* The version of this header: 10000 * major + 100 * minor + patch, and as text. docs/HOST.md says what each part means. */
-#define FLEX_VERSION 700
-#define FLEX_VERSION_TEXT "0.7.0"
+#define FLEX_VERSION 800
+#define FLEX_VERSION_TEXT "0.8.0"
 
 /* The table: eight control blocks of 320 bytes. All zero means that all are closed. */
 #define FLEX_BLOCKS 8
@@ -57,7 +58,7 @@ extern "C" {
                               eleven before a rename: otherwise it answers 21 */
 #define FLEX_BUFFER 64     /* 64-319: the sector at the position */
 
-/* Attributes. No function sets them: a new file has none. */
+/* Attributes. A new file has none; the raw writes alone, FLEX_PUT_SLOT and FLEX_WRITE_SECTOR, can set them. */
 #define FLEX_ATTRIBUTE_WRITE 128 /* the file is neither deleted nor renamed: 11 */
 #define FLEX_ATTRIBUTE_DELETE 64 /* it is not deleted: 12 */
 #define FLEX_ATTRIBUTE_READ 32   /* it is not opened for read: 17 */
@@ -71,21 +72,29 @@ extern "C" {
 #define FLEX_REWIND 5         /* open for read: back to the first byte. Sets the function to 0 */
 #define FLEX_OPEN_DIRECTORY 6 /* idle */
 #define FLEX_NEXT_SLOT 7      /* open directory: the next slot to 4-27, whatever it holds */
+#define FLEX_PUT_SLOT 8       /* open directory: 4-27 to the slot that was shown last. A raw write: see below */
 #define FLEX_READ_SECTOR 9    /* idle; the sector at 30-31 to the buffer */
+#define FLEX_WRITE_SECTOR 10  /* idle; the buffer to the sector at 30-31, any that exists. A raw write: see below */
 #define FLEX_DELETE 12        /* idle; the file by this name. 4-27 are then the marked slot: byte 4 is 255 */
 #define FLEX_RENAME 13        /* idle; the file by this name gets the new name */
+/*
+ * The two raw writes are for service staff's programs. They look at no name, no use and no protection, and can break a diskette:
+ * nothing is promised of its files after one, until the census accepts the image again with all blocks closed.
+ */
 
 /* Answers. */
 #define FLEX_DONE 0
 #define FLEX_NOT_SERVED 1        /* function not served */
-#define FLEX_IN_USE 2            /* the file is open: for write (to open it), at all (to delete or rename it) */
+#define FLEX_IN_USE 2            /* the file is open: for write (to open it), at all (to delete or rename it); to repair: some
+                                    block is not closed */
 #define FLEX_EXISTS 3            /* the name exists already */
 #define FLEX_NOT_FOUND 4         /* the name is not found */
 #define FLEX_DIRECTORY 5         /* the directory is not right, or the block's place is not a slot of it */
 #define FLEX_DISK_FULL 7         /* no free sector, for a byte or for a directory that has no slot left */
 #define FLEX_AT_END 8            /* end of the file or of the directory */
 #define FLEX_BAD_READ 9          /* bad address in reading or deleting */
-#define FLEX_BAD_WRITE 10        /* bad address in writing, or where the directory is to grow; or it is at its longest */
+#define FLEX_BAD_WRITE 10        /* bad address in writing, or where the directory is to grow; or it is at its longest; no such
+                                    sector to write */
 #define FLEX_WRITE_PROTECTED 11  /* the file is not to be deleted or renamed: attribute 128 */
 #define FLEX_DELETE_PROTECTED 12 /* the file is not to be deleted: attribute 64 */
 #define FLEX_NO_BLOCK 13         /* table length not 2,560, block number over 7, or close of a closed block */
@@ -106,7 +115,7 @@ extern "C" {
 #define FLEX_OWNER_DIRECTORY 65534 /* taken by the directory when it had no slot left */
 
 /*
- * Writes one byte of block fcb: offset 0 always; 3-14, 25-27, 30-31 and 53-63 while the block is idle. Answers 0, 13 or 18.
+ * Writes one byte of block fcb: offset 0 always; 3-27, 30-31 and 53-319 while the block is idle. Answers 0, 13 or 18.
  */
 uint32_t flex_preset(uint8_t *table, size_t table_len, size_t fcb, size_t offset, uint8_t value);
 
@@ -148,6 +157,20 @@ uint32_t flex_error_text(uint8_t *text, size_t text_len, uint8_t number);
  */
 uint32_t flex_format(uint8_t *image, size_t image_len, size_t last_track, size_t per_track, const uint8_t *label,
                      size_t label_len, uint16_t volume, uint8_t month, uint8_t day, uint8_t year);
+
+/*
+ * Repairs a damaged diskette. In the order of the slots each live file keeps the longest start of its chain that goes over data
+ * sectors, none of them the directory's or kept already, and has no more of them than the file states. Start, end, size and the
+ * last link are set by that; byte 23 of a file that is cut becomes 0. All other data sectors are then the free chain, in rising
+ * order. No other byte changes, and flex_census accepts what comes out. A file that is rightly chained and shares no sector
+ * keeps every byte. Of two files that share one the earlier slot keeps it: nothing on the diskette says whose it was.
+ * Answers 13 unless the table has 2,560 bytes; 2 unless all its blocks are closed (activity 0); then 41, 42 or 43 as the
+ * census has them, since without shape, directory and names there is no telling what the files are; these change nothing. Else
+ * 0, on a sound diskette too, where it changes nothing but the order of the free chain. The table is only read.
+ * A host that keeps the image on a card then writes it there by whole sectors, in any order: broken off anywhere and repaired
+ * again, it is the same image. flex_repair itself stores byte by byte in the memory that it is lent.
+ */
+uint32_t flex_repair(uint8_t *image, size_t image_len, const uint8_t *table, size_t table_len);
 
 #ifdef __cplusplus
 }

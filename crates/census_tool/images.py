@@ -1,5 +1,5 @@
 #!/usr/bin/env python3
-"""Writes the images that the program crates census_* read, into each one's file `stdin`.
+"""Writes the images that the program crates census_* and repair_* read, into each one's file `stdin`.
 
     python3 crates/census_tool/images.py        (from the repository's root)
 
@@ -136,17 +136,31 @@ def shared():
     return image
 
 
+def cycle():
+    """The second sector of A.TXT links to its first; A.TXT says that it has 60,000, and byte 23 is set. B.TXT is in order."""
+    image = empty()
+    slot(image, 1, "A", [1, 2])
+    put(image, at(1, 2), 1, 1)
+    put(image, at(0, 5) + 16 + 17, *divmod(60000, 256), 2)
+    slot(image, 2, "B", [4])
+    free(image, [3, 5])
+    return image
+
+
 def long():
     """64,001 bytes."""
     return bytes(64001)
 
 
-IMAGES = {
+CENSUS = {
     "empty": empty, "p4": p4, "41": r41, "42": r42, "43": r43, "holes": holes, "grown": grown, "44": r44, "45": r45, "46": r46,
     "shared": shared, "long": long,
 }
 
+REPAIR = {"shared": shared, "cycle": cycle}
+
 if __name__ == "__main__":
-    for name, make in IMAGES.items():
-        with open(f"crates/census_{name}/stdin", "wb") as f:
-            f.write(make())
+    for program, images in ("census", CENSUS), ("repair", REPAIR):
+        for name, make in images.items():
+            with open(f"crates/{program}_{name}/stdin", "wb") as f:
+                f.write(make())

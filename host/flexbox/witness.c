@@ -3,7 +3,8 @@
  *
  * Each call on a file is a line in the file that WITNESS_LOG names: open, or make with the mode, lock or share, read, and those
  * that put an image in place: write, sync, rename, move (a rename that replaces nothing), link, remove. Of these last, the
- * WITNESS_STOP-th ends the process before it is made, as a cut of power would; the WITNESS_FAIL-th is not made, but fails.
+ * WITNESS_STOP-th ends the process before it is made, as a cut of power would; the WITNESS_FAIL-th is not made, but fails; and just
+ * before the WITNESS_STORE-th another program, which asks for no lock, stores a byte, '!', at the start of the file 'disk'.
  *
  * WITNESS_AT_OPEN, WITNESS_AT_LOCK and WITNESS_AT_MOVE hold renames, "FROM TO FROM TO ..", which another program makes just before
  * the first file is opened, the first lock asked for, or the first file moved. With WITNESS_NO_LOCKS the file system has no locks,
@@ -61,10 +62,17 @@ static const char *path_of(int file) {
     return path;
 }
 
+static void store(void) {
+    int file = ((open_call)dlsym(RTLD_NEXT, "open"))("disk", O_WRONLY);
+    if (file < 0 || ((write_call)dlsym(RTLD_NEXT, "write"))(file, "!", 1) != 1) _exit(98);
+    close(file);
+}
+
 /* Notes a call that puts an image in place. Not 0: it is to fail. */
 static int noted(const char *what, const char *path) {
     calls++;
     if (calls == number("WITNESS_STOP")) _exit(99);
+    if (calls == number("WITNESS_STORE")) store();
     logged(what, path);
     return calls == number("WITNESS_FAIL");
 }

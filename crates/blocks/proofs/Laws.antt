@@ -7,10 +7,11 @@ use Prim.Native.Nat.{ℕ, zero, suc, _+_, _-_, _*_, _/_, _%_, _≤_, _<_}
 use native.Mathlib.Omega.{arith}
 use mir.Syntax.{w16, w64}
 use mir.Val.{Fits}
-use lib.Dec.{eqb, leb, ltb}
+use lib.Dec.{eqb, leb}
 use lib.ListN.{length, getD}
-use borrow.Author.Tests.{eq-eqb, ne-eqb, le-leb, lt-leb, lt-ltb, le-ltb, ltb-true, ltb-false}
+use borrow.Author.Tests.{eq-eqb, ne-eqb, le-leb, lt-leb, lt-ltb, le-ltb}
 use Rattle.laws.specs.Tests.{pick-all}
+use Rattle.laws.specs.Effects.{presettable-is}
 use Rattle.rules.specs.Bytes.{pick, within, part, over, one, two, same}
 use Rattle.rules.specs.Image.{addressOf}
 use Rattle.rules.specs.Directory.{placeOf}
@@ -96,7 +97,7 @@ module _ {a : ℕ} (act : ℕ) (p : a ≡ act) where
   unfolding idle
   idle-no h = rw (← p, ne-eqb a 0 (λ e. h (inl e)), ne-eqb a 16 (λ e. h (inr e))) refl
 
--- the offsets: the four runs that may be preset, and the five gaps around them
+-- the offsets: the three runs that may be preset, and the four gaps around them
 module _ (lo hi i : ℕ) where
   in-run : lo ≤ i → i < suc hi → within lo hi i ≡ true
   unfolding within
@@ -113,51 +114,36 @@ module _ (lo hi i : ℕ) where
 module _ (i : ℕ) where
   pub gap-1 : i < 3 → false ≡ presettable i
   unfolding presettable
-  gap-1 h = rw (before-run 3 14 i h, before-run 25 27 i (omega arith), before-run 30 31 i (omega arith), before-run 53 63 i (omega arith)) refl
+  gap-1 h = rw (before-run 3 27 i h, before-run 30 31 i (omega arith), before-run 53 319 i (omega arith)) refl
 
-  pub run-1 : 3 ≤ i → i < 15 → true ≡ presettable i
+  pub run-1 : 3 ≤ i → i < 28 → true ≡ presettable i
   unfolding presettable
-  run-1 h k = rw (in-run 3 14 i h k) refl
+  run-1 h k = rw (in-run 3 27 i h k) refl
 
-  pub gap-2 : 15 ≤ i → i < 25 → false ≡ presettable i
+  pub gap-2 : 28 ≤ i → i < 30 → false ≡ presettable i
   unfolding presettable
-  gap-2 h k = rw (past-run 3 14 i h, before-run 25 27 i k, before-run 30 31 i (omega arith), before-run 53 63 i (omega arith)) refl
+  gap-2 h k = rw (past-run 3 27 i h, before-run 30 31 i k, before-run 53 319 i (omega arith)) refl
 
-  pub run-2 : 25 ≤ i → i < 28 → true ≡ presettable i
+  pub run-2 : 30 ≤ i → i < 32 → true ≡ presettable i
   unfolding presettable
-  run-2 h k = rw (past-run 3 14 i (omega arith), in-run 25 27 i h k) refl
+  run-2 h k = rw (past-run 3 27 i (omega arith), in-run 30 31 i h k) refl
 
-  pub gap-3 : 28 ≤ i → i < 30 → false ≡ presettable i
+  pub gap-3 : 32 ≤ i → i < 53 → false ≡ presettable i
   unfolding presettable
-  gap-3 h k = rw (past-run 3 14 i (omega arith), past-run 25 27 i h, before-run 30 31 i k, before-run 53 63 i (omega arith)) refl
+  gap-3 h k = rw (past-run 3 27 i (omega arith), past-run 30 31 i h, before-run 53 319 i k) refl
 
-  pub run-3 : 30 ≤ i → i < 32 → true ≡ presettable i
+  pub run-3 : 53 ≤ i → i < 320 → true ≡ presettable i
   unfolding presettable
-  run-3 h k = rw (past-run 3 14 i (omega arith), past-run 25 27 i (omega arith), in-run 30 31 i h k) refl
+  run-3 h k = rw (past-run 3 27 i (omega arith), past-run 30 31 i (omega arith), in-run 53 319 i h k) refl
 
-  pub gap-4 : 32 ≤ i → i < 53 → false ≡ presettable i
+  pub gap-4 : 320 ≤ i → false ≡ presettable i
   unfolding presettable
-  gap-4 h k = rw (past-run 3 14 i (omega arith), past-run 25 27 i (omega arith), past-run 30 31 i h, before-run 53 63 i k) refl
+  gap-4 h = rw (past-run 3 27 i (omega arith), past-run 30 31 i (omega arith), past-run 53 319 i h) refl
 
-  pub run-4 : 53 ≤ i → i < 64 → true ≡ presettable i
-  unfolding presettable
-  run-4 h k = rw (past-run 3 14 i (omega arith), past-run 25 27 i (omega arith), past-run 30 31 i (omega arith), in-run 53 63 i h k) refl
-
-  pub gap-5 : 64 ≤ i → false ≡ presettable i
-  unfolding presettable
-  gap-5 h = rw (past-run 3 14 i (omega arith), past-run 25 27 i (omega arith), past-run 30 31 i (omega arith), past-run 53 63 i h) refl
-
-pub ruleset offsets = (gap-1, run-1, gap-2, run-2, gap-3, run-3, gap-4, run-4, gap-5)
-
-preset-small : (i : ℕ) → presettable i ≡ true → i < 64
-preset-small i h = go (ltb i 64) refl
-  where
-    go : (b : Bool) → ltb i 64 ≡ b → i < 64
-    go true e = ltb-true i 64 e
-    go false e = absurd (let z : false ≡ true = gap-5 i (ltb-false i 64 e) ∙ h in let y : _≡_ {A = ℕ} 0 1 = cc in omega arith)
+pub ruleset offsets = (gap-1, run-1, gap-2, run-2, gap-3, run-3, gap-4)
 
 pub preset-fits : (f i : ℕ) {r : Bool} → Fits w16 f → r ≡ presettable i → r ≡ true → Fits w64 (f + i)
-preset-fits f i h e k = let l : i < 64 = preset-small i (sym e ∙ k) in record { fits = omega arith }
+preset-fits f i h e k = let l : i < 320 = presettable-is i (sym e ∙ k) in record { fits = omega arith }
 
 module _ (tab : List ℕ) (f i v : ℕ) where
   pub preset-function : {tab′ : List ℕ} → i ≡ 0 → tab′ ≡ over tab (f + i) (one v) → out 0 0 [] tab′ ≡ left [] tab f (presetIn tab f i v)

@@ -11,15 +11,10 @@ use cells::get;
 use cells::put;
 use cells::store;
 use disk::address_of;
-
-// Where the fields of a block stand.
-const ERROR: usize = 1;
-
-const ACTIVITY: usize = 2;
-
-const EXTENSION: usize = 12;
-
-const PLACE: usize = 47;
+use rules::block::ACTIVITY;
+use rules::block::ERROR;
+use rules::block::EXTENSION;
+use rules::block::PLACE;
 
 // Does a block of this activity count as using its place? One that writes does; one that reads only where readers count.
 fn is_counted(readers: bool, activity: u8) -> bool
@@ -103,7 +98,7 @@ fn is_presettable(offset: usize) -> bool
     ensures { λ r. ⌜ r ≡ presettable offset ⌝ }
 {
     match offset {
-        3..=14 | 25..=27 | 30..=31 | 53..=63 => true,
+        3..=27 | 30..=31 | 53..=319 => true,
         _ => false,
     }
 }

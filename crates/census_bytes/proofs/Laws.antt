@@ -5,7 +5,7 @@ use mathlib.Core.List.{List, [], _∷_, _++_}
 use Prim.Native.Nat.{ℕ, zero, suc, _+_, _*_, _≤_, _<_}
 use native.Mathlib.Numerals.{add-one}
 use native.Mathlib.Omega.{arith}
-use lib.ListN.{length, getD, take, replicate, length-append}
+use lib.ListN.{length, getD, take, replicate}
 use lib.Seq.{take-suc, take-all, length-take-le}
 use lib.Dec.{eqb}
 use borrow.Author.Tests.{eq-eqb, ne-eqb}
@@ -20,15 +20,11 @@ use Rattle.disk.specs.declared.Shaped.{Shaped}
 use Rattle.disk.specs.declared.Shaped.the-variants.{Wrong}
 use Rattle.disk.specs.Loaded.{shapeOf}
 use Rattle.disk.specs.Shapes.{Shaping, wrong-is}
-use Rattle.laws.specs.Bytes.{over-append, over-none, length-two}
+use Rattle.laws.specs.Bytes.{over-append, over-none}
 use Rattle.laws.specs.Lent.{over-exact}
+use Rattle.laws.specs.Surveys.{length-bytes}
 
 -- ---- numbers as bytes
-
-pub length-bytes : (xs : List ℕ) → length (asBytes xs) ≡ 2 * length xs
-unfolding asBytes
-length-bytes [] = refl
-length-bytes (x ∷ xs) = rw (length-append (two x) (asBytes xs), length-two x, length-bytes xs) (omega arith)
 
 bytes-snoc : (xs : List ℕ) (v : ℕ) → asBytes (xs ++ v ∷ []) ≡ asBytes xs ++ two v
 unfolding asBytes two

@@ -14,8 +14,8 @@ use Rattle.rules.specs.Census.{fileOwners, filesOwners, directoryNumbers, direc
 use Rattle.laws.specs.Each.{Each, each-append, each-so, each-at}
 use Rattle.laws.specs.Addresses.{Shape}
 use Rattle.laws.specs.Slots.{numbers-fit}
+use Rattle.laws.specs.Counting.{once-is}
 use Rattle.laws.specs.Surveys.{dataSectors, length-listed, listed-below, length-owners, census-is}
-use Rattle.census_laws.specs.Marks.{once-is}
 
 -- ---- owners
 

@@ -14,27 +14,27 @@ use Rattle.rules.specs.Bytes.{pick, zeros}
 use Rattle.rules.specs.Census.{tally, eachOnce}
 use Rattle.laws.specs.Tests.{both, pick-all}
 use Rattle.laws.specs.Each.{Each}
-use Rattle.laws.specs.Counting.{total, total-out, total-in, total-length, total-once, once-length}
+use Rattle.laws.specs.Counting.{total, total-out, total-in, total-few, total-below, total-once, once-is, once-true, once-length}
 use Rattle.laws.specs.Bytes.{zeros-at, length-zeros}
 
 -- ---- counted in full
 
-total-most : (n : ℕ) (xs : List ℕ) → total n xs ≤ length xs
-total-most n [] = omega (arith, total-length n [] tt)
+total-most : (n : ℕ) (xs : List ℕ) → total 0 n xs ≤ length xs
+total-most n [] = omega (arith, total-below n [] tt)
 total-most n (x ∷ xs) = go (decLt x n) (total-most n xs)
   where
-    go : Dec (x < n) → total n xs ≤ length xs → total n (x ∷ xs) ≤ suc (length xs)
-    go (yes b) h = omega (arith, total-in n x xs b)
-    go (no b) h = omega (arith, total-out n x xs (omega arith))
+    go : Dec (x < n) → total 0 n xs ≤ length xs → total 0 n (x ∷ xs) ≤ suc (length xs)
+    go (yes b) h = omega (arith, total-in 0 n x xs (omega arith) (omega arith))
+    go (no b) h = omega (arith, total-out 0 n x xs (λ u v. omega arith))
 
 -- a list of which all count has all below n
-total-full : (n : ℕ) (xs : List ℕ) → total n xs ≡ length xs → Each (λ (x : ℕ). x < n) xs
+total-full : (n : ℕ) (xs : List ℕ) → total 0 n xs ≡ length xs → Each (λ (x : ℕ). x < n) xs
 total-full n [] h = tt
 total-full n (x ∷ xs) h = go (decLt x n) (total-full n xs)
   where
-    go : Dec (x < n) → (total n xs ≡ length xs → Each (λ (y : ℕ). y < n) xs) → (x < n) × Each (λ (y : ℕ). y < n) xs
-    go (yes b) ih = (b, ih (omega (arith, total-in n x xs b)))
-    go (no b) ih = absurd (omega (arith, total-out n x xs (omega arith), total-most n xs))
+    go : Dec (x < n) → (total 0 n xs ≡ length xs → Each (λ (y : ℕ). y < n) xs) → (x < n) × Each (λ (y : ℕ). y < n) xs
+    go (yes b) ih = (b, ih (omega (arith, total-in 0 n x xs (omega arith) (omega arith))))
+    go (no b) ih = absurd (omega (arith, total-out 0 n x xs (λ u v. omega arith), total-most n xs))
 
 -- what is not below n does not stand there
 tally-high : (n k : ℕ) (xs : List ℕ) → n ≤ k → Each (λ (x : ℕ). x < n) xs → tally k xs ≡ 0
@@ -43,22 +43,6 @@ tally-high n k [] h e = refl
 tally-high n k (x ∷ xs) h e = rw (ne-eqb x k (λ q. omega (arith, e .0))) (omega (arith, tally-high n k xs h (e .1)))
 
 -- ---- each once
-
-pub once-is : (n : ℕ) (xs : List ℕ) → eachOnce n xs ≡ true → (k : ℕ) → k < n → tally k xs ≡ 1
-unfolding eachOnce
-once-is zero xs h k b = absurd (omega arith)
-once-is (suc n) xs h k b =
-    let t : (eqb (tally n xs) 1 ≡ true) × (eachOnce n xs ≡ true) = both (eqb (tally n xs) 1) (eachOnce n xs) h in
-    go (t .0) (once-is n xs (t .1) k) (ℕ-discrete k n)
-  where
-    go : eqb (tally n xs) 1 ≡ true → (k < n → tally k xs ≡ 1) → Dec (k ≡ n) → tally k xs ≡ 1
-    go e ih (yes q) = ap (λ (i : ℕ). tally i xs) q ∙ eqb-true (tally n xs) 1 e
-    go e ih (no q) = ih (omega arith)
-
-once-true : (n : ℕ) (xs : List ℕ) → ((k : ℕ) → k < n → tally k xs ≡ 1) → eachOnce n xs ≡ true
-unfolding eachOnce
-once-true zero xs h = refl
-once-true (suc n) xs h = rw (eq-eqb (tally n xs) 1 (h n (omega arith))) (once-true n xs (λ k b. h k (omega arith)))
 
 -- a list of n numbers that holds each below n once holds none twice, and no other
 once-most : (n : ℕ) (xs : List ℕ) → eachOnce n xs ≡ true → length xs ≡ n → Each (λ (x : ℕ). x < n) xs × ((k : ℕ) → tally k xs ≤ 1)
@@ -80,19 +64,14 @@ once-short n xs e h = go (eachOnce n xs) refl
     go false q = refl
 
 -- n of them, none twice: each once
-few-once : (n : ℕ) (xs : List ℕ) → ((k : ℕ) → tally k xs ≤ 1) → total n xs ≤ n
+full-once : (lo d : ℕ) (xs : List ℕ) → ((k : ℕ) → tally k xs ≤ 1) → total lo d xs ≡ d → (k : ℕ) → lo ≤ k → k < lo + d → tally k xs ≡ 1
 unfolding total
-few-once zero xs t = omega arith
-few-once (suc n) xs t = omega (arith, t n, few-once n xs t)
-
-full-once : (n : ℕ) (xs : List ℕ) → ((k : ℕ) → tally k xs ≤ 1) → total n xs ≡ n → (k : ℕ) → k < n → tally k xs ≡ 1
-unfolding total
-full-once zero xs t e k b = absurd (omega arith)
-full-once (suc n) xs t e k b = go (ℕ-discrete k n) (full-once n xs t)
+full-once lo zero xs t e k a b = absurd (omega arith)
+full-once lo (suc d) xs t e k a b = go (ℕ-discrete k (lo + d)) (full-once lo d xs t)
   where
-    go : Dec (k ≡ n) → (total n xs ≡ n → (i : ℕ) → i < n → tally i xs ≡ 1) → tally k xs ≡ 1
-    go (yes q) ih = ap (λ (i : ℕ). tally i xs) q ∙ omega (arith, t n, few-once n xs t)
-    go (no q) ih = ih (omega (arith, t n, few-once n xs t)) k (omega arith)
+    go : Dec (k ≡ lo + d) → (total lo d xs ≡ d → (i : ℕ) → lo ≤ i → i < lo + d → tally i xs ≡ 1) → tally k xs ≡ 1
+    go (yes q) ih = ap (λ (i : ℕ). tally i xs) q ∙ omega (arith, t (lo + d), total-few lo d xs t)
+    go (no q) ih = ih (omega (arith, t (lo + d), total-few lo d xs t)) k a (omega arith)
 
 -- ---- marks
 
@@ -228,7 +207,7 @@ new-once n xs e =
     same-test (newcomers (zeros n) xs) (eachOnce n xs)
     (λ h. let r = new-is (zeros n) xs h in
     let all : Each (λ (x : ℕ). x < n) xs = subst (λ (m : ℕ). Each (λ (x : ℕ). x < m) xs) (length-zeros n) (r .0) in
-    once-true n xs (full-once n xs (λ k. omega (arith, r .1 k)) (total-length n xs all ∙ e)))
+    once-true n xs (λ k b. full-once 0 n xs (λ i. omega (arith, r .1 i)) (total-below n xs all ∙ e) k (omega arith) (omega arith)))
     (λ h. let r = once-most n xs h e in
     new-true (zeros n) xs (subst (λ (m : ℕ). Each (λ (x : ℕ). x < m) xs) (sym (length-zeros n)) (r .0))
     (λ k. omega (arith, used-none n k, r .1 k)))

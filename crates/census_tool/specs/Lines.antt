@@ -55,22 +55,20 @@ module _ (out : List ℕ) (at n : ℕ) (xs ys : List ℕ) (i : ℕ) {w : Texted}
       ∙ going-more out out′ at n k (line x y) (lines (drop (i + 1) xs) (drop (i + 1) ys)) e
 
 -- ---- the report
-module _ (a : ℕ) (xs ys out : List ℕ) where
-  pub report-refused : {w : Texted} → (a ≡ 0 → ⊥) → w ≡ written out 0 (line a 0) → w ≡ written out 0 (report (survey a xs ys))
+module _ (a : ℕ) (xs ys out : List ℕ) (at : ℕ) where
+  pub report-refused : {w : Texted} → (a ≡ 0 → ⊥) → w ≡ written out at (line a 0) → w ≡ written out at (report (survey a xs ys))
   unfolding report
   report-refused h e = rw (ne-eqb a 0 h) e
 
-  pub report-lists : {n k : ℕ} {out₁ out₂ : List ℕ} → a ≡ 0 → texted n out₁ ≡ written out 0 (line a (length xs)) → texted k out₂ ≡ written out₁ n (lines xs ys)
-      → texted (n + k) out₂ ≡ written out 0 (report (survey a xs ys))
+  pub report-lists : {n k : ℕ} {out₁ out₂ : List ℕ} → a ≡ 0 → texted n out₁ ≡ written out at (line a (length xs)) → texted k out₂ ≡ written out₁ (at + n) (lines xs ys)
+      → texted (n + k) out₂ ≡ written out at (report (survey a xs ys))
   unfolding report
-  report-lists {n} {k} {out₁} {out₂} h e f =
-      rw (eq-eqb a 0 h)
-      (written-then out out₁ out₂ 0 (line a (length xs)) (lines xs ys) e (f ∙ ap (λ (i : ℕ). written out₁ i (lines xs ys)) (omega arith)))
+  report-lists {n} {k} {out₁} {out₂} h e f = rw (eq-eqb a 0 h) (written-then out out₁ out₂ at (line a (length xs)) (lines xs ys) e f)
 
 -- of a census's survey
-pub report-census : (out img xs ys xs₁ ys₁ : List ℕ) {a : ℕ} {w : Texted} → survey a xs₁ ys₁ ≡ census img xs ys → w ≡ written out 0 (report (survey a xs₁ ys₁))
-    → w ≡ written out 0 (report (census img xs ys))
-report-census out img xs ys xs₁ ys₁ e f = f ∙ ap (λ (s : Survey). written out 0 (report s)) e
+pub report-census : (out img xs ys xs₁ ys₁ : List ℕ) (at : ℕ) {a : ℕ} {w : Texted} → survey a xs₁ ys₁ ≡ census img xs ys → w ≡ written out at (report (survey a xs₁ ys₁))
+    → w ≡ written out at (report (census img xs ys))
+report-census out img xs ys xs₁ ys₁ at e f = f ∙ ap (λ (s : Survey). written out at (report s)) e
 
 -- with the first n of outputs of zeros
 module _ (n : ℕ) (xs : List ℕ) (e : xs ≡ zeros 250) (h : n ≤ 250) where
@@ -83,6 +81,6 @@ module _ (n : ℕ) (xs : List ℕ) (e : xs ≡ zeros 250) (h : n ≤ 250) where
   pub first-few : length (take n xs) ≤ 250
   first-few = omega (arith, first-long)
 
-  pub report-sized : (out img ys : List ℕ) {w : Texted} → w ≡ written out 0 (report (census img (take n xs) (take n ys))) → ys ≡ zeros 250
-      → w ≡ written out 0 (report (census img (zeros n) (zeros n)))
-  report-sized out img ys d f = d ∙ ap₂ (λ (us ws : List ℕ). written out 0 (report (census img us ws))) first-zeros (ap (take n) f ∙ take-zeros n 250 h)
+  pub report-sized : (out img ys : List ℕ) (at : ℕ) {w : Texted} → w ≡ written out at (report (census img (take n xs) (take n ys))) → ys ≡ zeros 250
+      → w ≡ written out at (report (census img (zeros n) (zeros n)))
+  report-sized out img ys at d f = d ∙ ap₂ (λ (us ws : List ℕ). written out at (report (census img us ws))) first-zeros (ap (take n) f ∙ take-zeros n 250 h)

@@ -18,9 +18,9 @@ use Rattle.disk.specs.declared.Shaped.{Shaped}
 use Rattle.disk.specs.declared.Shaped.the-variants.{Right, Wrong}
 use Rattle.census_tool.specs.Written.{Texted, texted, written}
 
-module _ (img out : List ℕ) where
-  pub printed-long : {out₁ : List ℕ} → out₁ ≡ over out 0 (116 ∷ 111 ∷ 111 ∷ 32 ∷ 108 ∷ 111 ∷ 110 ∷ 103 ∷ 10 ∷ []) → 64000 < length img
-      → texted 9 out₁ ≡ written out 0 (printed img)
+module _ (img out : List ℕ) (at : ℕ) where
+  pub printed-long : {out₁ : List ℕ} → out₁ ≡ over out at (116 ∷ 111 ∷ 111 ∷ 32 ∷ 108 ∷ 111 ∷ 110 ∷ 103 ∷ 10 ∷ []) → 64000 < length img
+      → texted 9 out₁ ≡ written out at (printed img)
   unfolding written printed tooLong
   printed-long e h = rw (lt-ltb 64000 (length img) h, e) refl
 
@@ -43,7 +43,7 @@ module _ (img out : List ℕ) where
         go true q = let z : t ≡ record { last = lastTrack img; per = perTrack img } = cc in (refl, ap (λ (u : Shape). u .last) z, ap (λ (u : Shape). u .per) z)
         go false q = clash (cc)
 
-    pub printed-wrong : {w : Texted} → s ≡ Wrong → w ≡ written out 0 (line 41 0) → w ≡ written out 0 (printed img)
+    pub printed-wrong : {w : Texted} → s ≡ Wrong → w ≡ written out at (line 41 0) → w ≡ written out at (printed img)
     unfolding printed census report
     printed-wrong k d = rw (le-ltb 64000 (length img) h, not-right k) d
 
@@ -54,6 +54,6 @@ module _ (img out : List ℕ) where
       pub printed-few : n ≤ 250
       printed-few = omega (arith, n-is, shape-is img (is-right k .0) .long)
 
-      pub printed-right : {w : Texted} → w ≡ written out 0 (report (census img (zeros n) (zeros n))) → w ≡ written out 0 (printed img)
+      pub printed-right : {w : Texted} → w ≡ written out at (report (census img (zeros n) (zeros n))) → w ≡ written out at (printed img)
       unfolding printed
       printed-right d = rw (le-ltb 64000 (length img) h, ← n-is) d

@@ -12,6 +12,13 @@ use Rattle.laws.specs.Bytes.{over-append, length-one, length-over}
 pub data Texted : Type 0 where
   texted : ℕ → List ℕ → Texted
 
+-- no second count and text fit a promise of one
+abbrev pub SingleTexted : Texted → Type 0
+SingleTexted w = (n n′ : ℕ) (out out′ : List ℕ) → texted n out ≡ w → texted n′ out′ ≡ w → (n ≡ n′) × (out ≡ out′)
+
+pub single-texted : (w : Texted) → SingleTexted w
+single-texted w n n′ out out′ p q = (cc, cc)
+
 unfoldable pub written : List ℕ → ℕ → List ℕ → Texted
 written out at bs = texted (length bs) (over out at bs)
 

@@ -21,7 +21,7 @@ fn letter(n: u16) -> u8
 }
 
 // A number in decimal from a place on; how many bytes that are.
-fn put_decimal(out: &mut [u8], at: usize, n: u16) -> usize
+pub fn put_decimal(out: &mut [u8], at: usize, n: u16) -> usize
     ensures { λ r. ⌜ (texted r (now (out .exit)) ≡ written (now (out .entry)) at (decimal n)) × (r ≤ 5) ⌝ }
 {
     if n < 10 {
@@ -92,8 +92,8 @@ fn put_line(out: &mut [u8], at: u32, x: u16, y: u16) -> usize
 }
 
 // A line for each sector and its owner from a place on; how many bytes that are.
-fn put_lines(out: &mut [u8], at: u16, sectors: &[u16], owners: &[u16]) -> usize
-    requires { ⌜ length (now sectors) ≤ 65536 ⌝ }
+fn put_lines(out: &mut [u8], at: u32, sectors: &[u16], owners: &[u16]) -> usize
+    requires { ⌜ (length (now sectors) ≤ 65536) × (at ≤ 131072) ⌝ }
     ensures { λ r. ⌜ (texted r (now (out .exit)) ≡ written (now (out .entry)) at (lines (now (sectors .entry)) (now (owners .entry)))) × (r ≤ 12 * length (now (sectors .entry))) ⌝ }
 {
     let mut n = 0usize;
@@ -109,26 +109,32 @@ fn put_lines(out: &mut [u8], at: u16, sectors: &[u16], owners: &[u16]) -> usize
     n
 }
 
-// What is printed of an answer and outputs.
-fn put_report(out: &mut [u8], answer: u8, sectors: &[u16], owners: &[u16]) -> usize
+// What is printed of an answer and outputs, from a place on.
+fn put_report(out: &mut [u8], at: u16, answer: u8, sectors: &[u16], owners: &[u16]) -> usize
     requires { ⌜ length (now sectors) ≤ 250 ⌝ }
-    ensures { λ r. ⌜ (texted r (now (out .exit)) ≡ written (now (out .entry)) 0 (report (survey answer (now (sectors .entry)) (now (owners .entry))))) × (r ≤ 4096) ⌝ }
+    ensures { λ r. ⌜ (texted r (now (out .exit)) ≡ written (now (out .entry)) at (report (survey answer (now (sectors .entry)) (now (owners .entry))))) × (r ≤ 4096) ⌝ }
 {
     if answer != 0 {
-        return put_line(out, 0, answer as u16, 0);
+        return put_line(out, at as u32, answer as u16, 0);
     }
-    let n = put_line(out, 0, answer as u16, sectors.len() as u16);
-    let k = put_lines(out, n as u16, sectors, owners);
+    let n = put_line(out, at as u32, answer as u16, sectors.len() as u16);
+    let k = put_lines(out, (at as usize + n) as u32, sectors, owners);
     n + k
 }
 
 // What is printed of an image's census with these outputs.
-fn put_census(out: &mut [u8], image: &[u8], sectors: &mut [u16], owners: &mut [u16]) -> usize
+fn put_census(
+    out: &mut [u8],
+    at: u16,
+    image: &[u8],
+    sectors: &mut [u16],
+    owners: &mut [u16],
+) -> usize
     requires { ⌜ length (now sectors) ≤ 250 ⌝ }
-    ensures { λ r. ⌜ (texted r (now (out .exit)) ≡ written (now (out .entry)) 0 (report (census (now (image .entry)) (now (sectors .entry)) (now (owners .entry))))) × (r ≤ 4096) ⌝ }
+    ensures { λ r. ⌜ (texted r (now (out .exit)) ≡ written (now (out .entry)) at (report (census (now (image .entry)) (now (sectors .entry)) (now (owners .entry))))) × (r ≤ 4096) ⌝ }
 {
     let answer = census(image, sectors, owners);
-    put_report(out, answer, sectors, owners)
+    put_report(out, at, answer, sectors, owners)
 }
 
 // An output that is long enough for each image of at most 64,000 bytes.
@@ -139,21 +145,21 @@ fn blank() -> [u16; 250]
 }
 
 // The same with outputs of n zeros.
-fn put_sized(out: &mut [u8], image: &[u8], n: usize) -> usize
+fn put_sized(out: &mut [u8], at: u16, image: &[u8], n: usize) -> usize
     requires { ⌜ n ≤ 250 ⌝ }
-    ensures { λ r. ⌜ (texted r (now (out .exit)) ≡ written (now (out .entry)) 0 (report (census (now (image .entry)) (zeros n) (zeros n)))) × (r ≤ 4096) ⌝ }
+    ensures { λ r. ⌜ (texted r (now (out .exit)) ≡ written (now (out .entry)) at (report (census (now (image .entry)) (zeros n) (zeros n)))) × (r ≤ 4096) ⌝ }
 {
     let mut sectors = blank();
     let mut owners = blank();
-    put_census(out, image, &mut sectors[..n], &mut owners[..n])
+    put_census(out, at, image, &mut sectors[..n], &mut owners[..n])
 }
 
 // What is printed of an image.
-fn put_printed(out: &mut [u8], image: &[u8]) -> usize
-    ensures { λ r. ⌜ (texted r (now (out .exit)) ≡ written (now (out .entry)) 0 (printed (now (image .entry)))) × (r ≤ 4096) ⌝ }
+fn put_printed(out: &mut [u8], at: u16, image: &[u8]) -> usize
+    ensures { λ r. ⌜ (texted r (now (out .exit)) ≡ written (now (out .entry)) at (printed (now (image .entry)))) × (r ≤ 4096) ⌝ }
 {
     if image.len() > 64000 {
-        store(out, 0, b"too long\n");
+        store(out, at as usize, b"too long\n");
         return 9;
     }
     let shape = shape_of(image);
@@ -162,17 +168,17 @@ fn put_printed(out: &mut [u8], image: &[u8]) -> usize
             let last = s.last;
             let per = s.per;
             let n = data_sectors(last, per) as usize;
-            put_sized(out, image, n)
+            put_sized(out, at, image, n)
         }
-        Shaped::Wrong => put_line(out, 0, 41, 0),
+        Shaped::Wrong => put_line(out, at as u32, 41, 0),
     }
 }
 
-// What the census program prints of an image that it read, stored from the first byte of a text on; how many bytes that are.
-pub fn print(image: &[u8], out: &mut [u8]) -> usize
-    ensures { λ r. ⌜ (now (out .exit) ≡ over (now (out .entry)) 0 (printed (now (image .entry)))) × (r ≡ length (printed (now (image .entry)))) × (r ≤ 4096) ⌝ }
+// What the census program prints of an image that it read, stored from a place of a text on; how many bytes that are.
+pub fn print(image: &[u8], out: &mut [u8], at: u16) -> usize
+    ensures { λ r. ⌜ (now (out .exit) ≡ over (now (out .entry)) at (printed (now (image .entry)))) × (r ≡ length (printed (now (image .entry)))) × (r ≤ 4096) ⌝ }
 {
-    put_printed(out, image)
+    put_printed(out, at, image)
 }
 
 // The program: an image is read from standard input, up to 65,536 bytes of it, and what is to be printed is written to standard output.
@@ -180,6 +186,6 @@ pub fn run() {
     let mut input = io::large_buffer();
     let count = io::read_full(0, &mut input);
     let mut out = io::buffer();
-    let n = print(&input[..count], &mut out);
+    let n = print(&input[..count], &mut out, 0);
     io::write_all(1, &out[..n]);
 }

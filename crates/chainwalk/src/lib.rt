@@ -11,7 +11,7 @@ use disk::link_of;
 use outputs::place;
 
 // The number of the data sector with the index k.
-fn number(per: u8, k: u16) -> u16
+pub fn number(per: u8, k: u16) -> u16
     ensures { λ r. ⌜ r ≡ dataNumber per k ⌝ }
 {
     if k < per as u16 {

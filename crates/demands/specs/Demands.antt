@@ -19,15 +19,15 @@ use Rattle.rules.specs.Call.{checked, call}
 use Rattle.rules.specs.Census.{Survey, survey, census, tally}
 use Rattle.laws.specs.Small.{Small}
 use Rattle.laws.specs.Addresses.{Shape}
-use Rattle.laws.specs.Effects.{answerNumbers}
+use Rattle.laws.specs.Effects.{answerNumbers, repairNumbers}
 use Rattle.laws.specs.Blank.{formatNumbers}
 use Rattle.chains.specs.Once.{rising}
 use Rattle.chains.specs.Chain.{pieces}
 use Rattle.chains.specs.Walk.{chainAt}
-use Rattle.demands.specs.Ledger.{Call, asking, File, listing, Ledger, file, block, asks, activity, entryOf, imageOf, tableOf, nowhere, slot, fileNamed, slotForNew}
+use Rattle.demands.specs.Ledger.{Call, asking, writesRaw, File, listing, Ledger, file, block, asks, activity, entryOf, imageOf, tableOf, nowhere, slot, fileNamed, slotForNew}
 use Rattle.demands.specs.Diskette.{ledgerOf, ledgerNumbers, ledgerOwners}
 use Rattle.demands.specs.Service.{Wanted, Service, flex, ansOf, byteOf, imgOf, tabOf, Machine, answers, gave, next, entry, run, log}
-use Rattle.demands.specs.History.{Scene, then, history, scenes, Told, Only, nameThen, Survives, Unnamed, sentBy, Accepts, Reads, shown, filesOn, ahead}
+use Rattle.demands.specs.History.{Scene, then, history, scenes, Told, Plain, Only, nameThen, Survives, Unnamed, sentBy, Accepts, Reads, shown, filesOn, ahead}
 
 -- ---- DEMAND 1: for any bytes of image and table
 
@@ -49,21 +49,25 @@ names code act i =
     (pick (eqb code 5) (member i (0 ∷ 30 ∷ 31 ∷ 34 ∷ []))
     (pick (eqb code 6) (pick (within 47 49 i) true (eqb i 2))
     (pick (eqb code 7) (pick (within 47 49 i) true (within 4 27 i))
+    (pick (writesRaw code) false
     (pick (eqb code 9) (within 64 319 i)
     (pick (eqb code 12) (within 4 27 i)
-    (within 4 14 i))))))))
+    (within 4 14 i)))))))))
 
 -- it stores nothing in the image: reading, open for read, rewind, open directory, next slot, read sector, close but of a file that is written
 unfoldable pub looks : ℕ → ℕ → Bool
 looks code act = pick (eqb code 0) (eqb act 1) (pick (eqb code 4) (pick (eqb act 2) false true) (member code (1 ∷ 5 ∷ 6 ∷ 7 ∷ 9 ∷ [])))
 
--- the slot that a call of this code names, of the block that begins at f: its place's (0, 4), the one for a new file (2), its name's (12, 13)
+-- the slot that a call of this code names, of the block that begins at f: its place's (0, 4, 8), the one for a new file (2), none (10), its name's
+-- (12, 13)
 abbrev pub slotNamed : List ℕ → List ℕ → ℕ → ℕ → Lookup
 slotNamed img tab f code =
     pick (eqb code 0) (slotIn img tab (lastTrack img) (perTrack img) f)
     (pick (eqb code 4) (slotIn img tab (lastTrack img) (perTrack img) f)
+    (pick (eqb code 8) (slotIn img tab (lastTrack img) (perTrack img) f)
     (pick (eqb code 2) (vacancy img (lastTrack img) (perTrack img))
-    (find img (lastTrack img) (perTrack img) (nameIn tab f))))
+    (pick (eqb code 10) Missing
+    (find img (lastTrack img) (perTrack img) (nameIn tab f))))))
 
 -- 02, "When no slot is left": open for write takes a sector for the directory
 abbrev pub isMissing : Lookup → Bool
@@ -97,25 +101,33 @@ movesFree img code = pick (eqb code 0) true (pick (eqb code 12) true (grows img 
 abbrev pub inLink : ℕ → ℕ → Bool
 inLink k p = within (256 * k) (256 * k + 1) p
 
--- an accepted call names byte p of the image: the information record's 29-34; the slot; where the directory grows its last sector's link; and,
--- behind track 0, the data sectors
+-- the sector that is written raw (10), wherever it is
+abbrev pub sectorRaw : List ℕ → List ℕ → ℕ → ℕ
+sectorRaw img tab f = index (perTrack img) (positionIn tab f)
+
+-- an accepted call names byte p of the image: the sector that is written raw; the information record's 29-34; the slot; where the directory grows its
+-- last sector's link; and, behind track 0, the data sectors
 unfoldable pub named : List ℕ → List ℕ → ℕ → ℕ → ℕ → Bool
 named img tab f code p =
-    pick (within 541 546 p) (movesFree img code)
+    pick (pick (eqb code 10) (eqb (p / 256) (sectorRaw img tab f)) false) true
+    (pick (within 541 546 p) (movesFree img code)
     (pick (inNamed (slotNamed img tab f code) p) true
     (pick (pick (grows img code) (inLink (lastSector img (lastTrack img) (perTrack img)) p) false) true
-    (pick (ltb p (256 * perTrack img)) false (member (p / 256) (sectorsNamed img tab f code)))))
+    (pick (ltb p (256 * perTrack img)) false (member (p / 256) (sectorsNamed img tab f code))))))
 
 pub record Demand1 (σ : Service) : Type 0 where
-  -- these five have no past: what 01 and 02 say of them is an equation
+  -- these six have no past: what 01 and 02 say of them is an equation
   pub preset : (tab : List ℕ) (n i v : ℕ) → σ .preset tab n i v ≡ flex .preset tab n i v
   pub extension : (tab : List ℕ) (n c : ℕ) → σ .extension tab n c ≡ flex .extension tab n c
   pub text : (m : List ℕ) (e : ℕ) → σ .text m e ≡ flex .text m e
   pub census : (img xs ys : List ℕ) → σ .census img xs ys ≡ flex .census img xs ys
   pub format : (img : List ℕ) (w : Wanted) → σ .format img w ≡ flex .format img w
-  -- so format has three numbers, and its refusal changes nothing
+  pub repair : (img tab : List ℕ) → σ .repair img tab ≡ flex .repair img tab
+  -- so format has three numbers and repair six, and their refusals change nothing
   pub format-stated : (img : List ℕ) (w : Wanted) → member (saysOf (σ .format img w)) formatNumbers ≡ true
   pub format-refused : (img : List ℕ) (w : Wanted) → saysOf (σ .format img w) ≢ 0 → leftOf (σ .format img w) ≡ img
+  pub repair-stated : (img tab : List ℕ) → member (saysOf (σ .repair img tab)) repairNumbers ≡ true
+  pub repair-refused : (img tab : List ℕ) → saysOf (σ .repair img tab) ≢ 0 → leftOf (σ .repair img tab) ≡ img
   -- a call of a wrong table or number: nothing at all
   pub none : (img tab : List ℕ) (n b : ℕ) → (Lent tab n → ⊥) → σ .call img tab n b ≡ out 13 0 img tab
   -- "Numbers given back": one of the stated numbers; the one, and the byte, that the papers have for this call; 16, 1, 16, 18 / 13 before all else
@@ -137,6 +149,8 @@ pub record Demand1 (σ : Service) : Type 0 where
   pub looking : (img tab : List ℕ) (n b : ℕ) → looks (functionIn tab (320 * n)) (activityIn tab (320 * n)) ≡ true
       → (imgOf (σ .call img tab n b) ≡ img) × (σ .call img tab n b ≡ flex .call img tab n b)
   pub elsewhere : (img tab : List ℕ) (n b p : ℕ) → named img tab (320 * n) (functionIn tab (320 * n)) p ≡ false → byteAt (imgOf (σ .call img tab n b)) p ≡ byteAt img p
+  -- a raw write does in every byte what 02 says: once it is accepted, demands 2 and 3 are silent
+  pub raw : (img tab : List ℕ) (n b : ℕ) → writesRaw (functionIn tab (320 * n)) ≡ true → σ .call img tab n b ≡ flex .call img tab n b
 
 -- ---- the start, for demands 2 and 3
 
@@ -231,15 +245,16 @@ module _ (σ : Service) (M S : ℕ) where
   -- block m opens the file under its name of then: accepted; then, until it closes, it reads: the bytes, and 8; from the start after each rewind
   pub record ReadBack (x : Machine) (a : Ledger) (bytes : List ℕ) (m b : ℕ) : Type 0 where
     pub opens : answers σ x (asking m b) ≡ 0
-    pub reads : (cs : List Call) → Only m (0 ∷ 5 ∷ []) (since (next σ x (asking m b)) (ledgerAfter x a (asking m b)) cs)
+    pub reads : (cs : List Call) → Plain (since (next σ x (asking m b)) (ledgerAfter x a (asking m b)) cs)
+        → Only m (0 ∷ 5 ∷ []) (since (next σ x (asking m b)) (ledgerAfter x a (asking m b)) cs)
         → Reads m 0 bytes (since (next σ x (asking m b)) (ledgerAfter x a (asking m b)) cs)
 
   -- whatever is called, short of deleting the file in slot s, its sectors have the record numbers 1, 2, 3, .. and it is read back under its name of then
   pub record Kept (x : Machine) (a : Ledger) (s : ℕ) (nm sent : List ℕ) : Type 0 where
-    pub numbers : (cs : List Call) → Survives nm (since x a cs)
+    pub numbers : (cs : List Call) → Plain (since x a cs) → Survives nm (since x a cs)
         → pieces 2 2 (run σ x cs .img) (file (toldSince x a cs) s .secs) ≡ counted 1 ((length sent + 251) / 252)
-    pub back : (cs : List Call) → Survives nm (since x a cs) → (m b : ℕ) → Asks (toldSince x a cs) m 1 → Idle (toldSince x a cs) m
-        → nameOf (toldSince x a cs) m ≡ nameThen nm (since x a cs)
+    pub back : (cs : List Call) → Plain (since x a cs) → Survives nm (since x a cs) → (m b : ℕ) → Asks (toldSince x a cs) m 1
+        → Idle (toldSince x a cs) m → nameOf (toldSince x a cs) m ≡ nameThen nm (since x a cs)
         → ReadBack (run σ x cs) (toldSince x a cs) (sent ++ zeros (rest (length sent))) m b
 
   -- block n has written into the new file in slot s, whatever else was called: every byte was accepted where there was room, its sectors are
@@ -255,18 +270,22 @@ module _ (σ : Service) (M S : ℕ) where
   -- a new file is opened for write: accepted; then any calls, of block n's own only function 0 accepted
   pub record Created (x : Machine) (a : Ledger) (n s b : ℕ) : Type 0 where
     pub opens : answers σ x (asking n b) ≡ 0
-    pub writes : (cs : List Call) → Only n (0 ∷ []) (since (next σ x (asking n b)) (ledgerAfter x a (asking n b)) cs)
+    pub writes : (cs : List Call) → Plain (since (next σ x (asking n b)) (ledgerAfter x a (asking n b)) cs)
+        → Only n (0 ∷ []) (since (next σ x (asking n b)) (ledgerAfter x a (asking n b)) cs)
         → WrittenTo (next σ x (asking n b)) (ledgerAfter x a (asking n b)) n s (nameOf a n) cs
 
-pub record Demand2 (σ : Service) : Type 0 where
-  -- whatever was called before, what 01 allows can be preset: so a block can be made to ask for what follows
-  pub presets : (x : Machine) → Start x → (cs : List Call) (n i v : ℕ)
-      → σ .preset (run σ x cs .tab) n i v ≡ flex .preset (tableOf (told σ x cs)) n i v
+-- after these calls
+pub record ComesBack (σ : Service) (x : Machine) (cs : List Call) : Type 0 where
+  -- what 01 and 02 allow can be preset: so a block can be made to ask for what follows
+  pub presets : (n i v : ℕ) → σ .preset (run σ x cs .tab) n i v ≡ flex .preset (tableOf (told σ x cs)) n i v
   -- and a legal name that no file has, where a slot or a free sector is left, is opened for write
-  pub creates : (x : Machine) → Start x → (cs : List Call) (n s b : ℕ) → Asks (told σ x cs) n 2 → Idle (told σ x cs) n
-      → legal (nameOf (told σ x cs) n) 0 ≡ true → fileNamed (nameOf (told σ x cs) n) (told σ x cs .slots) ≡ nowhere
-      → slotForNew (told σ x cs) ≡ slot s
+  pub creates : (n s b : ℕ) → Asks (told σ x cs) n 2 → Idle (told σ x cs) n → legal (nameOf (told σ x cs) n) 0 ≡ true
+      → fileNamed (nameOf (told σ x cs) n) (told σ x cs .slots) ≡ nowhere → slotForNew (told σ x cs) ≡ slot s
       → Created σ (lastTrackOf x) (perTrackOf x) (run σ x cs) (told σ x cs) n s b
+
+-- whatever was called before, but for an accepted raw write
+abbrev pub Demand2 : Service → Type 0
+Demand2 σ = (x : Machine) → Start x → (cs : List Call) → Plain (past σ x cs) → ComesBack σ x cs
 
 -- ---- DEMAND 3: the diskette stays sound, and is what the history says
 
@@ -298,6 +317,16 @@ Begins us vs = vs ≡ us ++ drop (length us) vs
 abbrev pub wholly : List ℕ → List ℕ → List (List ℕ)
 wholly img ks = pieces 0 256 img ks
 
+-- the sectors that slot s of the start has in an image, by its links and its stated size
+abbrev pub chainOf : Machine → List ℕ → ℕ → List ℕ
+chainOf x img s = chainAt (perTrackOf x) img (placeIn x s + 13)
+
+-- slot s of the start is in this image as it was: its 24 bytes, its sectors, and all 256 bytes of each of them
+pub record AsItWas (x : Machine) (img : List ℕ) (s : ℕ) : Type 0 where
+  pub slot : part img (placeIn x s) 24 ≡ part (x .img) (placeIn x s) 24
+  pub sectors : chainOf x img s ≡ chainOf x (x .img) s
+  pub bytes : wholly img (chainOf x (x .img) s) ≡ wholly (x .img) (chainOf x (x .img) s)
+
 pub record Sound (σ : Service) (x : Machine) (cs : List Call) : Type 0 where
   -- every answer and every byte is the one that the history predicts; every byte of image and table is what the history says
   pub answered : Told (lastTrackOf x) (perTrackOf x) (past σ x cs)
@@ -313,7 +342,7 @@ pub record Sound (σ : Service) (x : Machine) (cs : List Call) : Type 0 where
   pub sectors : sectorsIn x (run σ x cs .img) ≡ told σ x cs .dir
   pub places : slotsIn x (run σ x cs .img) ≡ placesOf (told σ x cs .slots)
   pub stood : Begins (slotsIn x (x .img)) (slotsIn x (run σ x cs .img))
-  pub keeps : (c : Call) → Begins (told σ x cs .dir) (told σ x (cs ++ c ∷ []) .dir)
+  pub keeps : (c : Call) → Plain (past σ x (cs ++ c ∷ [])) → Begins (told σ x cs .dir) (told σ x (cs ++ c ∷ []) .dir)
   pub entries : (s : ℕ) → s < length (slotsIn x (run σ x cs .img)) → part (run σ x cs .img) (getD (slotsIn x (run σ x cs .img)) s 0) 24 ≡ entryOf (file (told σ x cs) s)
   -- the files that image and table have, by links, an unfinished sector's bytes from its control block, are those that the history shows
   pub files : filesOn (lastTrackOf x) (perTrackOf x) (run σ x cs .img) (run σ x cs .tab) ≡ shown (told σ x cs)
@@ -333,14 +362,26 @@ pub record Sound (σ : Service) (x : Machine) (cs : List Call) : Type 0 where
   pub stays : (p : ℕ) → pick (ltb p (256 * perTrackOf x)) true (member (p / 256) (sectorsIn x (x .img))) ≡ true → within 541 546 p ≡ false
       → inSlot p (slotsIn x (x .img)) ≡ false → inLink (lastSector (x .img) (lastTrackOf x) (perTrackOf x)) p ≡ false
       → byteAt (run σ x cs .img) p ≡ byteAt (x .img) p
-  pub rests : (c : Call) (k : ℕ) → member k (told σ x cs .free) ≡ true → member k (told σ x (cs ++ c ∷ []) .free) ≡ true
+  pub rests : (c : Call) → Plain (past σ x (cs ++ c ∷ [])) → (k : ℕ) → member k (told σ x cs .free) ≡ true
+      → member k (told σ x (cs ++ c ∷ []) .free) ≡ true
       → part (run σ x (cs ++ c ∷ []) .img) (256 * k + 2) 254 ≡ part (run σ x cs .img) (256 * k + 2) 254
-  -- a file of the start that no accepted call deletes or renames keeps its slot's 24 bytes, its sectors, and all 256 bytes of each of them
-  pub spared : (s : ℕ) → s < length (slotsIn x (x .img)) → live (x .img) (placeIn x s) ≡ true
-      → Unnamed (part (x .img) (placeIn x s) 11) (past σ x cs)
-      → (part (run σ x cs .img) (placeIn x s) 24 ≡ part (x .img) (placeIn x s) 24)
-      × (chainAt (perTrackOf x) (run σ x cs .img) (placeIn x s + 13) ≡ chainAt (perTrackOf x) (x .img) (placeIn x s + 13))
-      × (wholly (run σ x cs .img) (chainAt (perTrackOf x) (x .img) (placeIn x s + 13)) ≡ wholly (x .img) (chainAt (perTrackOf x) (x .img) (placeIn x s + 13)))
+  -- a file of the start that no accepted call deletes or renames is as it was
+  pub spared : (s : ℕ) → s < length (slotsIn x (x .img)) → live (x .img) (placeIn x s) ≡ true → Unnamed (part (x .img) (placeIn x s) 11) (past σ x cs)
+      → AsItWas x (run σ x cs .img) s
 
 abbrev pub Demand3 : Service → Type 0
-Demand3 σ = (x : Machine) → Start x → (cs : List Call) → Sound σ x cs
+Demand3 σ = (x : Machine) → Start x → (cs : List Call) → Plain (past σ x cs) → Sound σ x cs
+
+-- ---- WHERE THEY SPEAK AGAIN
+
+-- 02, "After either, demands 2 and 3 speak again only from an image that the census accepts with all FCBs closed": of the calls ds that come after the
+-- calls cs, as if they were the first; and both halves are one list, with one log
+pub record Again (σ : Service) (x : Machine) (cs ds : List Call) : Type 0 where
+  pub back : ComesBack σ (run σ x cs) ds
+  pub sound : Sound σ (run σ x cs) ds
+  pub runs : run σ x (cs ++ ds) ≡ run σ (run σ x cs) ds
+  pub logs : log σ x (cs ++ ds) ≡ log σ x cs ++ log σ (run σ x cs) ds
+
+-- from any bytes, and whatever was called, raw writes and all
+abbrev pub SpeakAgain : Service → Type 0
+SpeakAgain σ = (x : Machine) (cs ds : List Call) → Start (run σ x cs) → Plain (past σ (run σ x cs) ds) → Again σ x cs ds

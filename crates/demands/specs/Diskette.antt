@@ -2,19 +2,15 @@
 use mathlib.Core.List.{List, [], _∷_, _++_}
 use Prim.Native.Nat.{ℕ, zero, suc, _+_}
 use lib.ListN.{length, replicate}
-use Rattle.rules.specs.Bytes.{pick, part}
-use Rattle.rules.specs.Directory.{live, directory, slots}
+use Rattle.rules.specs.Bytes.{part, flat}
+use Rattle.rules.specs.Directory.{directory, slots}
 use Rattle.rules.specs.Census.{directoryOwner}
-use Rattle.chains.specs.Tally.{flat}
 use Rattle.chains.specs.Chain.{contents, pieces}
 use Rattle.chains.specs.Walk.{chainAt, numbers, dataOf}
+use Rattle.chains.specs.Files.{sectorsAt}
 use Rattle.demands.specs.Ledger.{File, secsOf, closed, Ledger}
 
 -- ---- the files of an image
-
--- the sectors of the slot at o: those of its chain, if it is live
-abbrev pub sectorsAt : ℕ → List ℕ → ℕ → List ℕ
-sectorsAt S img o = pick (live img o) (chainAt S img (o + 13)) []
 
 -- of each sector its record number; its bytes 2-255
 abbrev pub records : List ℕ → List ℕ → List (List ℕ)

@@ -1,28 +1,31 @@
 -- The fakes: services that break the user's words, and so must not meet the demands. Each is ours with one thing changed, but for `refusing`
 -- and `idling`, which do nothing at all; in quotes, words of 01 or 02 that it breaks. That they fail is proved in crate `refuted`.
 use mathlib.Core.Bool.{Bool, true, false, not}
-use mathlib.Core.List.{List, [], _∷_}
+use mathlib.Core.List.{List, [], _∷_, _++_}
 use Prim.Native.Nat.{ℕ, zero, suc, _+_, _-_, _*_}
-use lib.ListN.{length}
+use lib.ListN.{length, take}
 use lib.Dec.{eqb, ltb}
 use Rattle.rules.specs.Bytes.{pick, byteAt, wordAt, part, over, one, two, zeros}
-use Rattle.rules.specs.Image.{shapeRight, lastTrack, perTrack, index, firstFree, freeCount}
-use Rattle.rules.specs.Directory.{neverUsed, named, lastSector, slots, find, attributesAt}
+use Rattle.rules.specs.Image.{shapeRight, lastTrack, perTrack, index, adr, firstFree, freeCount}
+use Rattle.rules.specs.Directory.{neverUsed, named, first, live, sizeAt, directory, lastSector, slots, find, attributesAt}
+use Rattle.rules.specs.Stores.{Store, stored}
+use Rattle.rules.specs.Repair.{keeps, allOf, others, mendFiles, links, mendFree, keptIn, freeIn}
 use Rattle.rules.specs.Outcome.{Out, out, Told as Reply, told as replied, saysOf, leftOf}
 use Rattle.rules.specs.Block.{functionIn, activityIn, nameIn}
 use Rattle.rules.specs.Files.{readProtected}
-use Rattle.rules.specs.Census.{Survey, survey, directoryOwner}
+use Rattle.rules.specs.Census.{Survey, survey, directoryOwner, filesRight}
 use Rattle.rules.specs.declared.Lookup.{Lookup}
 use Rattle.rules.specs.declared.Lookup.the-variants.{At, Missing, Broken}
 use Rattle.chains.specs.Once.{rising}
-use Rattle.demands.specs.Service.{Wanted, Service, flex}
+use Rattle.demands.specs.Service.{Wanted, Service, flex, imgOf}
 use Rattle.demands.specs.Demands.{grows}
 
 -- ---- ours, changed
 
--- another call; another census; another format
+-- another call; another census; another format; another repair
 abbrev pub withCall : (List ℕ → List ℕ → ℕ → ℕ → Out) → Service
-withCall f = record { preset = flex .preset; extension = flex .extension; call = f; census = flex .census; text = flex .text; format = flex .format }
+withCall f =
+    record { preset = flex .preset; extension = flex .extension; call = f; census = flex .census; text = flex .text; format = flex .format; repair = flex .repair }
 
 abbrev pub withCensus : (Survey → Survey) → Service
 withCensus f = record {
@@ -32,10 +35,16 @@ withCensus f = record {
   census = λ img xs ys. f (flex .census img xs ys);
   text = flex .text;
   format = flex .format;
+  repair = flex .repair;
 }
 
 abbrev pub withFormat : (List ℕ → Wanted → Reply) → Service
-withFormat f = record { preset = flex .preset; extension = flex .extension; call = flex .call; census = flex .census; text = flex .text; format = f }
+withFormat f =
+    record { preset = flex .preset; extension = flex .extension; call = flex .call; census = flex .census; text = flex .text; format = f; repair = flex .repair }
+
+abbrev pub withRepair : (List ℕ → List ℕ → Reply) → Service
+withRepair f =
+    record { preset = flex .preset; extension = flex .extension; call = flex .call; census = flex .census; text = flex .text; format = flex .format; repair = f }
 
 -- block n asks for this function; it asks for function 0, and its activity is 1 (it reads) or 2 (it writes)
 abbrev pub asksFor : ℕ → List ℕ → ℕ → Bool
@@ -73,6 +82,7 @@ refusing = record {
   census = λ img xs ys. survey 41 xs ys;
   text = λ m e. replied 40 m;
   format = λ img w. replied 41 img;
+  repair = λ img tab. replied 13 img;
 }
 
 -- every call is refused, and no more. "the first deleted or never-used slot in order gets name and date"
@@ -88,6 +98,7 @@ idling = record {
   census = flex .census;
   text = flex .text;
   format = flex .format;
+  repair = flex .repair;
 }
 
 -- one fixed byte on every read. "Returns the buffer byte at the index"
@@ -145,6 +156,7 @@ misextending = record {
   census = flex .census;
   text = flex .text;
   format = flex .format;
+  repair = flex .repair;
 }
 
 -- where the shape is wrong, image and table are wiped and 0 is answered. "16 image shape wrong"
@@ -314,3 +326,100 @@ masked (survey a xs ys) = pick (eqb a 0) (survey a xs (unmarked ys)) (survey a x
 
 abbrev pub masking : Service
 masking = withCensus masked
+
+-- ---- 02, "Raw writing"
+
+-- function 10 answers as ours and stores nothing. "functions .. 10 (activity 0 or 16; 10 if no such sector)"
+abbrev pub shamming : Service
+shamming = withCall (λ img tab n b. pick (asksFor 10 tab n) (asOn img (flex .call img tab n b)) (flex .call img tab n b))
+
+-- function 8 stores into the first slot of the sector, whichever the place names. "functions 8 (activity 16; 5)"
+abbrev pub straying : Service
+straying = withCall (λ img tab n b.
+    pick (asksFor 8 tab n) (asOn (imgOf (flex .call img (over tab (320 * n + 49) (one 16)) n b)) (flex .call img tab n b)) (flex .call img tab n b))
+
+-- a preset refuses the buffer's bytes, as it once did. "preset taking 15-24 and 64-319 too"
+abbrev pub narrow : Service
+narrow = record {
+  preset = λ tab n i v. pick (ltb i 64) (flex .preset tab n i v) (replied 18 tab);
+  extension = flex .extension;
+  call = flex .call;
+  census = flex .census;
+  text = flex .text;
+  format = flex .format;
+  repair = flex .repair;
+}
+
+-- ---- 02, "Repair"
+
+-- as ours answers; where it is 0, another image, by the one that was lent and the one that ours leaves
+abbrev pub withMended : (List ℕ → List ℕ → List ℕ) → Service
+withMended f = withRepair (λ img tab. replyWith (f img) (flex .repair img tab))
+
+-- every file is emptied and every sector free; the census accepts that. "a file sharing nothing and rightly chained keeps every byte"
+abbrev pub sizeless : List ℕ → List ℕ → List ℕ
+sizeless img [] = img
+sizeless img (o ∷ os) = over (sizeless img os) (o + 17) (zeros 2)
+
+abbrev pub emptying : Service
+emptying = withMended (λ img m. leftOf (flex .repair (sizeless img (slots img (lastTrack img) (perTrack img))) (zeros 2560)))
+
+-- nothing is changed. "The census then accepts"
+abbrev pub pretending : Service
+pretending = withMended (λ img m. img)
+
+-- the last file keeps first, so that a shared sector is the later one's; the census accepts that. "In slot order"
+abbrev pub backwards : List ℕ → List ℕ
+backwards [] = []
+backwards (o ∷ os) = backwards os ++ (o ∷ [])
+
+-- each of these slots gets these sectors, linked to one another; the others are free
+abbrev pub linked : ℕ → List (List ℕ) → List Store
+linked S [] = []
+linked S (l ∷ ls) = links S l ++ linked S ls
+
+abbrev pub mendedBy : List ℕ → ℕ → ℕ → List ℕ → List (List ℕ) → List ℕ
+mendedBy img M S os ls = stored img (mendFiles img S os ls ++ (linked S ls ++ mendFree S (others (allOf ls ++ directory img M S) (M * S) S)))
+
+abbrev pub favoured : List ℕ → ℕ → ℕ → List ℕ → List ℕ
+favoured img M S os = mendedBy img M S os (keeps img M S (directory img M S) os)
+
+abbrev pub favouring : Service
+favouring = withMended (λ img m. favoured img (lastTrack img) (perTrack img) (backwards (slots img (lastTrack img) (perTrack img))))
+
+-- the first file that is cut gets what no file keeps, as much as it states; the census accepts that. "each live file keeps the longest start of its chain"
+abbrev pub adopted : List ℕ → List ℕ → List ℕ → List (List ℕ) → List (List ℕ)
+adopted img lost [] ls = ls
+adopted img lost (o ∷ os) [] = []
+adopted img lost (o ∷ os) (l ∷ ls) =
+    pick (pick (live img o) (ltb (length l) (sizeAt img o)) false) ((l ++ take (sizeAt img o - length l) lost) ∷ ls) (l ∷ adopted img lost os ls)
+
+abbrev pub adoptedIn : List ℕ → ℕ → ℕ → List ℕ
+adoptedIn img M S = mendedBy img M S (slots img M S) (adopted img (freeIn img M S) (slots img M S) (keptIn img M S))
+
+abbrev pub adopting : Service
+adopting = withMended (λ img m. adoptedIn img (lastTrack img) (perTrack img))
+
+-- the free chain is turned round each time; the census accepts that. "all other data sectors form the free chain in rising order"
+abbrev pub turned : List ℕ → ℕ → List ℕ → List ℕ → List ℕ
+turned img S f m = stored m (mendFree S (pick (eqb (firstFree img) (adr S (first f 0))) (backwards f) f))
+
+abbrev pub turning : Service
+turning = withMended (λ img m. turned img (perTrack img) (freeIn img (lastTrack img) (perTrack img)) m)
+
+-- what no file keeps is cleared. "no other byte changes"
+abbrev pub scrubbed : List ℕ → List ℕ → List ℕ
+scrubbed m [] = m
+scrubbed m (k ∷ ks) = over (scrubbed m ks) (256 * k + 2) (zeros 254)
+
+abbrev pub scrubbing : Service
+scrubbing = withMended (λ img m. scrubbed m (freeIn img (lastTrack img) (perTrack img)))
+
+-- open blocks are not looked at. "with all FCBs closed (13 for the table, then 2)"
+abbrev pub barging : Service
+barging = withRepair (λ img tab. flex .repair img (zeros 2560))
+
+-- where a file's chain is wrong, for which the census gives 45, it refuses. "it needs shape, directory and names right and gives the census number if not"
+abbrev pub shirking : Service
+shirking = withRepair (λ img tab.
+    pick (filesRight img (lastTrack img) (perTrack img) (slots img (lastTrack img) (perTrack img))) (flex .repair img tab) (replied 42 img))

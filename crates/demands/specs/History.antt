@@ -10,7 +10,7 @@ use Rattle.rules.specs.Bytes.{pick, part, one, same}
 use Rattle.rules.specs.Stores.{put}
 use Rattle.rules.specs.Directory.{live, placeOf, member, slots}
 use Rattle.rules.specs.Block.{uses}
-use Rattle.demands.specs.Ledger.{Call, setting, extending, asking, blockOf, File, Block, closed, listing, reading, writing, Ledger, file, block, asks, holdsOpen, putInto, fate, reply, gives, after}
+use Rattle.demands.specs.Ledger.{Call, setting, extending, asking, blockOf, writesRaw, File, Block, closed, listing, reading, writing, Ledger, file, block, asks, holdsOpen, putInto, fate, reply, gives, after}
 use Rattle.demands.specs.Diskette.{filesAt}
 use Rattle.demands.specs.Service.{Entry}
 
@@ -88,6 +88,15 @@ Survives nm (c ∷ cs) = (hits 12 nm c ≡ false) × Survives (nameAfter nm c) c
 abbrev pub Unnamed : List ℕ → List Scene → Type 0
 Unnamed nm [] = Unit {0}
 Unnamed nm (c ∷ cs) = (hits 12 nm c ≡ false) × (hits 13 nm c ≡ false) × Unnamed nm cs
+
+-- it was a raw write (function 8 or 10), and accepted
+abbrev pub raw : Scene → Bool
+raw c = onCall (c .made) false (λ m b. pick (writesRaw (asks (c .before) m b .code)) (eqb (c .ans) 0) false)
+
+-- PLAIN CALLS: no raw write was accepted. Of other lists demands 2 and 3 say nothing: they speak again from a start
+abbrev pub Plain : List Scene → Type 0
+Plain [] = Unit {0}
+Plain (c ∷ cs) = (raw c ≡ false) × Plain cs
 
 -- ---- the calls of one block
 

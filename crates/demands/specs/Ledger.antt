@@ -5,19 +5,17 @@ use mathlib.Core.List.{List, [], _∷_, _++_}
 use Prim.Native.Nat.{ℕ, zero, suc, _+_, _-_, _*_, _/_, _%_}
 use lib.ListN.{length, getD, set, drop}
 use lib.Dec.{eqb, ltb}
-use Rattle.rules.specs.Bytes.{pick, byteAt, wordAt, part, one, two, six, zeros}
+use Rattle.rules.specs.Bytes.{pick, byteAt, wordAt, part, one, two, six, zeros, flat}
 use Rattle.rules.specs.Stores.{Store, store, stored, Put, put, puts}
 use Rattle.rules.specs.Outcome.{Effect, answer, onBlock}
-use Rattle.rules.specs.Image.{index, isSector, infoSector, infoFirst}
+use Rattle.rules.specs.Image.{index, isSector, infoSector, infoFirst, adr}
 use Rattle.rules.specs.Names.{legal}
-use Rattle.rules.specs.Directory.{firstSlotOf, named, vacant, placeOf, lastOf}
+use Rattle.rules.specs.Directory.{firstSlotOf, named, vacant, placeOf, first, chainRecord}
 use Rattle.rules.specs.Block.{functionField, activityField, driveField, nameField, dateField, positionField, recordField, indexField, placeField, newNameField, bufferField, presetIn, extensionIn}
 use Rattle.rules.specs.Transfer.{takePuts, sent, shut}
 use Rattle.rules.specs.Files.{opened, writeProtected, deleteProtected, readProtected}
 use Rattle.rules.specs.Call.{served, fits, misfit}
-use Rattle.chains.specs.Addresses.{adr}
-use Rattle.chains.specs.Tally.{flat}
-use Rattle.chains.specs.Chain.{first, setLast}
+use Rattle.chains.specs.Chain.{setLast}
 
 -- ---- calls, as they are made: a preset (block, offset, value), a default extension (block, code), a call (block, byte sent)
 
@@ -30,6 +28,10 @@ abbrev pub blockOf : Call → ℕ
 blockOf (setting n i v) = n
 blockOf (extending n c) = n
 blockOf (asking n b) = n
+
+-- 02, "Raw writing": functions 8 and 10 store what the caller has put into the block, whatever stands there
+abbrev pub writesRaw : ℕ → Bool
+writesRaw code = pick (eqb code 8) true (eqb code 10)
 
 -- ---- what the ledger knows
 
@@ -111,15 +113,11 @@ fileStores S [] = []
 fileStores S (f ∷ fs) =
     store (f .at / 256) (f .at % 256) (entryOf f) ∷ (chainStores S (f .secs) (joined (f .recs) (f .body)) ++ fileStores S fs)
 
--- first free, last free and their count
-unfoldable pub freeRecord : ℕ → List ℕ → List ℕ
-freeRecord S ks = six (adr S (first ks 0)) (adr S (lastOf ks 0)) (length ks)
-
 -- THE IMAGE: the start's, with the information record's 29-34, the free sectors, the directory's sectors, the slots and their files stored into it
 unfoldable pub imageOf : ℕ → Ledger → List ℕ
 imageOf S a =
     stored (a .base)
-    (store infoSector infoFirst (freeRecord S (a .free))
+    (store infoSector infoFirst (chainRecord S (a .free))
     ∷ (chainStores S (a .free) (a .spare)
     ++ (chainStores S (a .dir) (a .heads)
     ++ fileStores S (a .slots))))
@@ -385,11 +383,23 @@ module _ (M S : ℕ) (a : Ledger) (n : ℕ) (q : Request) where
   shownNext (reading s j i) = denied 18
   shownNext (writing s ub) = denied 18
 
+  -- 8, where a slot was shown. A raw write that is accepted ends what the history says, until another start: no statement uses the ledger after it
+  abbrev pub slotPut : Block → Fate
+  slotPut closed = denied 18
+  slotPut (listing zero) = denied 5
+  slotPut (listing (suc p)) = granted 0 a []
+  slotPut (reading s j i) = denied 18
+  slotPut (writing s ub) = denied 18
+
   -- 9
   unfoldable pub fetched : Fate
   fetched =
       unlessA (isSector M S (q .position)) 9
       (granted 0 a (put bufferField (part (imageOf S a) (256 * index S (q .position)) 256) ∷ []))
+
+  -- 10, as 8
+  abbrev pub sectorPut : Fate
+  sectorPut = unlessA (isSector M S (q .position)) 10 (granted 0 a [])
 
   -- 12
   unfoldable pub deleted : Fate
@@ -425,12 +435,14 @@ module _ (M S : ℕ) (a : Ledger) (n : ℕ) (q : Request) where
       (pick (eqb (q .code) 5) (rewound (block a n))
       (pick (eqb (q .code) 6) directoryOpened
       (pick (eqb (q .code) 7) (shownNext (block a n))
+      (pick (eqb (q .code) 8) (slotPut (block a n))
       (pick (eqb (q .code) 9) sector
+      (pick (eqb (q .code) 10) sectorPut
       (pick (eqb (q .code) 12) deleted
-      renamed))))))))
+      renamed))))))))))
 
-  -- a call of block n that asks for q. 16 for the shape, 5, 9 in reading and deleting, and 10 cannot occur where the history leads: that they do
-  -- not is part of what is demanded
+  -- a call of block n that asks for q. 16 for the shape, 5 but in function 8, 9 in reading and deleting, and 10 but in function 10 cannot occur where
+  -- the history leads: that they do not is part of what is demanded
   unfoldable pub called : Fate
   called =
       unlessA (served (q .code)) 1

@@ -4,4 +4,5 @@ pub mod Diskette
 pub mod Service
 pub mod History
 pub mod Demands
+pub mod Repairs
 pub mod Fakes

@@ -1,4 +1,4 @@
--- A service: its six entries as functions on lists. Ours, by the rules. Lists of calls, and the log that they leave.
+-- A service: its seven entries as functions on lists. Ours, by the rules. Lists of calls, and the log that they leave.
 use mathlib.Core.List.{List, [], _∷_}
 use Prim.Native.Nat.{ℕ}
 use Rattle.rules.specs.Stores.{stored, puts}
@@ -8,6 +8,7 @@ use Rattle.rules.specs.Call.{call as callRule}
 use Rattle.rules.specs.Census.{Survey, census as censusRule}
 use Rattle.rules.specs.Text.{errorText}
 use Rattle.rules.specs.Format.{format as formatRule}
+use Rattle.rules.specs.Repair.{repair as repairRule}
 use Rattle.demands.specs.Ledger.{Call, setting, extending, asking}
 
 -- what a blank diskette is to be like: last track, sectors per track, label, volume number, date
@@ -21,7 +22,7 @@ pub record Wanted : Type 0 where
   pub year : ℕ
 
 -- preset (table, block, offset, value), default extension (table, block, code), the call (image, table, block, byte), the census (image, two
--- outputs), the error text (lent bytes, number), format (image, the diskette wanted)
+-- outputs), the error text (lent bytes, number), format (image, the diskette wanted), repair (image, table)
 pub record Service : Type 0 where
   pub preset : List ℕ → ℕ → ℕ → ℕ → Reply
   pub extension : List ℕ → ℕ → ℕ → Reply
@@ -29,6 +30,7 @@ pub record Service : Type 0 where
   pub census : List ℕ → List ℕ → List ℕ → Survey
   pub text : List ℕ → ℕ → Reply
   pub format : List ℕ → Wanted → Reply
+  pub repair : List ℕ → List ℕ → Reply
 
 abbrev pub settledOn : List ℕ → ℕ → Effect → Reply
 settledOn tab n e = replied (answer e) (puts tab (blockAt n) (onBlock e))
@@ -45,6 +47,7 @@ flex = record {
   census = λ img xs ys. censusRule img xs ys;
   text = λ m e. errorText m e;
   format = λ img w. formatRule img (w .last) (w .per) (w .label) (w .volume) (w .month) (w .day) (w .year);
+  repair = λ img tab. repairRule img tab;
 }
 
 -- ---- what a call leaves

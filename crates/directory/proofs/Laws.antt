@@ -8,8 +8,8 @@ use native.Mathlib.Omega.{arith}
 use mir.Syntax.{w8, w16}
 use mir.Val.{Fits}
 use lib.ListN.{length, getD}
-use lib.Dec.{leb}
-use borrow.Author.Tests.{le-leb, lt-leb, lt-ltb, le-ltb, eq-eqb, ne-eqb}
+use lib.Dec.{leb, ltb}
+use borrow.Author.Tests.{le-leb, lt-leb, lt-ltb, le-ltb, eq-eqb, ne-eqb, ltb-true}
 use Rattle.rules.specs.Bytes.{pick, wordAt, within, part, one, two, same}
 use Rattle.rules.specs.Image.{trackOf, sectorOf, index, addressOf, isData, linkOf}
 use Rattle.rules.specs.Directory.{isDirectory, stepTo, nextOf, onNext, mostOfDirectory, ends, directoryRight, sectorsFrom, directory, lastOf, slots, neverUsed, deleted, live, scan, named, vacant, find, vacancy, member, placed}
@@ -133,7 +133,7 @@ unfolding wordAt
 letters-word tab at i e d = let x : at + (i + 1) ≡ at + i + 1 = omega arith in rw (e, d, x) refl
 
 -- names that differ in two letters
-module _ (img tab : List ℕ) (slot at d : ℕ) (h : d + 1 < 11) {a b : ℕ} (p : a ≡ wordAt img (slot + d)) (q : b ≡ wordAt tab (at + d)) (n : a ≡ b → ⊥) where
+module _ (img tab : List ℕ) (slot at d : ℕ) {a b : ℕ} (p : a ≡ wordAt img (slot + d)) (q : b ≡ wordAt tab (at + d)) (n : a ≡ b → ⊥) (h : ltb (d + 1) 11 ≡ true) where
   other : same (part img slot 11) (part tab at 11) ≡ false
   unfolding wordAt
   other = go (same (part img slot 11) (part tab at 11)) refl
@@ -144,26 +144,19 @@ module _ (img tab : List ℕ) (slot at d : ℕ) (h : d + 1 < 11) {a b : ℕ} (p 
       go : (t : Bool) → same (part img slot 11) (part tab at 11) ≡ t → t ≡ false
       go true e =
           let s = same-eq (part img slot 11) (part tab at 11) e in
+          let l = ltb-true (d + 1) 11 h in
           let x = letter s d (omega arith) in
-          let y : getD img (slot + d + 1) 0 ≡ getD tab (at + d + 1) 0 = rw (let u : slot + d + 1 ≡ slot + (d + 1) = omega arith in u, let v : at + d + 1 ≡ at + (d + 1) = omega arith in v) (letter s (d + 1) h) in
+          let y : getD img (slot + d + 1) 0 ≡ getD tab (at + d + 1) 0 = rw (let u : slot + d + 1 ≡ slot + (d + 1) = omega arith in u, let v : at + d + 1 ≡ at + (d + 1) = omega arith in v) (letter s (d + 1) l) in
           absurd (n (omega (arith, x, y)))
       go false e = refl
 
-  named-other : false ≡ named img (part tab at 11) slot
+  pub named-other : false ≡ named img (part tab at 11) slot
   unfolding named
   named-other = rw other (sym (neither (live img slot)))
     where
       neither : (t : Bool) → pick t false false ≡ false
       neither true = refl
       neither false = refl
-
-pub named-end : (img tab : List ℕ) (slot at : ℕ) {a b : ℕ} → a ≡ wordAt img (slot + 6) → b ≡ wordAt tab (at + 6) → (a ≡ b → ⊥)
-    → false ≡ named img (part tab at 11) slot
-named-end img tab slot at p q n = named-other img tab slot at 6 (omega arith) p q n
-
-pub named-third : (img tab : List ℕ) (slot at : ℕ) {a b : ℕ} → a ≡ wordAt img (slot + 2) → b ≡ wordAt tab (at + 2) → (a ≡ b → ⊥)
-    → false ≡ named img (part tab at 11) slot
-named-third img tab slot at p q n = named-other img tab slot at 2 (omega arith) p q n
 
 module _ (img name : List ℕ) (slot : ℕ) {free : Bool} where
   pub looked-free : {l : Bool} → l ≡ live img slot → free ≡ true → not l ≡ looked free img name slot

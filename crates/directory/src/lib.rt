@@ -20,11 +20,8 @@ use disk::is_data;
 use disk::link_of;
 use rules::Lookup;
 use rules::Next;
-
-// The directory's first sector, and its first slot.
-const FIRST_SECTOR: u16 = 4;
-
-const FIRST_SLOT: u32 = 1040;
+use rules::place::FIRST_SECTOR;
+use rules::place::FIRST_SLOT;
 
 // How far the directory goes: its last sector, and how many sectors it has.
 pub struct Extent {

@@ -1,7 +1,7 @@
 -- Products of bytes fit; the shape from its numbers; a link that may be absent; data stored in a sector's own part of the image.
 use mathlib.Core.Path.{_≡_, refl, ap, _∙_}
 use mathlib.Core.Bool.{Bool, true, false, not}
-use mathlib.Core.List.{List}
+use mathlib.Core.List.{List, [], _∷_}
 use Prim.Native.Nat.{ℕ, _+_, _-_, _*_, _/_, _%_, _≤_, _<_}
 use native.Mathlib.Nat.{mul-le-mul, div-zero, mod-zero, div-le-self, mod-le}
 use native.Mathlib.Omega.{arith}
@@ -10,7 +10,7 @@ use lib.ListN.{length, getD}
 use lib.Dec.{eqb, leb}
 use borrow.Author.Tests.{le-leb, lt-leb, not-true, not-false}
 use Rattle.rules.specs.Bytes.{within, part, over, two}
-use Rattle.rules.specs.Stores.{stored}
+use Rattle.rules.specs.Stores.{store, stored}
 use Rattle.rules.specs.Image.{withinLimits, shapeRight, addressOf}
 use Rattle.rules.specs.Transfer.{linked}
 use Rattle.laws.specs.Bytes.{length-part}
@@ -85,7 +85,21 @@ module _ (img : List ℕ) (none : Bool) (k a : ℕ) where
   unfolding linked
   link-some h e = rw h (e ∙ ap (λ (n : ℕ). over img n (two a)) (omega arith))
 
--- the data of the sector whose 256 bytes begin at o
+-- the n bytes from i on of the sector whose 256 bytes begin at o
+bytes-stored : (m d tab : List ℕ) (o i n from : ℕ) → o + 256 ≤ length m → i + n ≤ 256 → d ≡ over (midOf o (o + 256 - o) m) i (part tab from n)
+    → putMid o (o + 256 - o) m d ≡ over m (o + i) (part tab from n)
+bytes-stored m d tab o i n from h k e = over-within m d (part tab from n) o 256 i h (omega (arith, k, length-part tab from n)) e
+
+-- its data
 pub data-stored : (m d tab : List ℕ) (o from : ℕ) → o + 256 ≤ length m → d ≡ over (midOf o (o + 256 - o) m) 4 (part tab from 252)
     → putMid o (o + 256 - o) m d ≡ over m (o + 4) (part tab from 252)
-data-stored m d tab o from h e = over-within m d (part tab from 252) o 256 4 h (omega (arith, length-part tab from 252)) e
+data-stored m d tab o from h e = bytes-stored m d tab o 4 252 from h (omega arith) e
+
+-- all of it
+pub whole-stored : (m d tab : List ℕ) (o from : ℕ) → o + 256 ≤ length m → d ≡ over (midOf o (o + 256 - o) m) 0 (part tab from 256)
+    → putMid o (o + 256 - o) m d ≡ over m o (part tab from 256)
+whole-stored m d tab o from h e = bytes-stored m d tab o 0 256 from h (omega arith) e ∙ ap (λ (n : ℕ). over m n (part tab from 256)) (omega arith)
+
+-- the same as a store
+pub sector-stored : {d : List ℕ} (m tab : List ℕ) (k from : ℕ) → d ≡ over m (256 * k) (part tab from 256) → d ≡ stored m (store k 0 (part tab from 256) ∷ [])
+sector-stored m tab k from e = e ∙ ap (λ (n : ℕ). over m n (part tab from 256)) (omega arith)

@@ -1,9 +1,9 @@
 -- No second outcome fits the promise of a public function of this crate.
 use mathlib.Core.Bool.{Bool}
-use mathlib.Core.List.{List}
+use mathlib.Core.List.{List, [], _∷_}
 use Prim.Native.Nat.{ℕ, _+_, _*_}
 use Rattle.rules.specs.Bytes.{part, over, six}
-use Rattle.rules.specs.Stores.{stored}
+use Rattle.rules.specs.Stores.{store, stored}
 use Rattle.rules.specs.Image.{withinLimits, index, addressOf, isSector, isData, linkOf, infoSector, infoFirst}
 use Rattle.rules.specs.Transfer.{fresh, linked}
 use Rattle.laws.specs.Single.{Single, single}
@@ -47,6 +47,9 @@ load-sector-single tab at img k = single (over tab at (part img (256 * k) 256))
 
 pub store-data-single : (img : List ℕ) (k : ℕ) (tab : List ℕ) (from : ℕ) → Single (over img (256 * k + 4) (part tab from 252))
 store-data-single img k tab from = single (over img (256 * k + 4) (part tab from 252))
+
+pub store-sector-single : (img : List ℕ) (k : ℕ) (tab : List ℕ) (from : ℕ) → Single (stored img (store k 0 (part tab from 256) ∷ []))
+store-sector-single img k tab from = single (stored img (store k 0 (part tab from 256) ∷ []))
 
 pub fresh-sector-single : (m : List ℕ) (at size : ℕ) → Single (over m at (fresh size))
 fresh-sector-single m at size = single (over m at (fresh size))

@@ -1,8 +1,9 @@
 // The image as a diskette: its shape, the addresses of sectors, the information record, sectors loaded and stored. All are total.
 ghost use mathlib.Core.Path.{_≡_};
+ghost use mathlib.Core.List.{[], _∷_};
 ghost use Prim.Native.Nat.{_+_, _*_, _≤_};
 ghost use Rattle.rules.specs.Bytes.{part, over, six};
-ghost use Rattle.rules.specs.Stores.{stored};
+ghost use Rattle.rules.specs.Stores.{store, stored};
 ghost use Rattle.rules.specs.Image.{withinLimits, index, addressOf, isSector, isData, linkOf, infoSector, infoFirst};
 ghost use Rattle.rules.specs.Transfer.{fresh, linked};
 ghost use Rattle.disk.specs.Loaded.{isShape, shapeOf, freeOf};
@@ -192,6 +193,25 @@ pub fn store_data(image: &mut [u8], k: u16, table: &[u8], from: usize)
         return;
     }
     copy(&mut image[o..o + 256], 4, table, from, 252);
+}
+
+// All bytes of a sector stored, likewise. The lengths are written out in both: so the compiler copies without a call.
+fn store_whole(image: &mut [u8], k: u16, table: &[u8], from: usize)
+    ensures { λ _. ⌜ now (image .exit) ≡ over (now (image .entry)) (256 * k) (part (now (table .entry)) from 256) ⌝ }
+{
+    let o = 256 * k as usize;
+    if image.len() < o + 256 {
+        copy(image, o, table, from, 256);
+        return;
+    }
+    copy(&mut image[o..o + 256], 0, table, from, 256);
+}
+
+// The same as a store.
+pub fn store_sector(image: &mut [u8], k: u16, table: &[u8], from: usize)
+    ensures { λ _. ⌜ now (image .exit) ≡ stored (now (image .entry)) (store k 0 (part (now (table .entry)) from 256) ∷ []) ⌝ }
+{
+    store_whole(image, k, table, from);
 }
 
 // A new sector stored: its record number is the size, its link 0,0, its data zeros.

@@ -9,22 +9,12 @@ use cells::get;
 use cells::get_in;
 use cells::get2;
 use cells::store;
-
-// Where the parts of a slot stand.
-const ATTRIBUTES: usize = 11;
-
-const START: usize = 13;
-
-const END: usize = 15;
-
-const SIZE: usize = 17;
-
-const DATE: usize = 21;
-
-// Where a block has name and date.
-const BLOCK_NAME: usize = 4;
-
-const BLOCK_DATE: usize = 25;
+use rules::block;
+use rules::slot::ATTRIBUTES;
+use rules::slot::DATE;
+use rules::slot::END;
+use rules::slot::SIZE;
+use rules::slot::START;
 
 // Attributes.
 const WRITE_PROTECT: u8 = 128;
@@ -131,8 +121,8 @@ pub fn new_entry(table: &[u8], f: u16) -> Entry
     ensures { λ r. ⌜ r ≡ newOf (now (table .entry)) f ⌝ }
 {
     let at = f as usize;
-    let name = name_at(table, at + BLOCK_NAME);
-    let date = date_at(table, at + BLOCK_DATE);
+    let name = name_at(table, at + block::NAME);
+    let date = date_at(table, at + block::DATE);
     Entry {
         name,
         attributes: 0,

@@ -155,10 +155,6 @@ module _ (img tab : List ℕ) (M S f : ℕ) {v : Bool} {o : Out} (e : v ≡ same
 -- ---- read sector
 
 module _ (img tab : List ℕ) (M S f : ℕ) {v : Bool} {a : ℕ} (e : a ≡ wordAt tab (f + 30)) (g : v ≡ isSector M S a) where
-  pub sector-none : {r : ℕ} {t : List ℕ} → v ≡ false → r ≡ 9 → t ≡ over tab (f + 1) (one 9) → out r 0 img t ≡ left img tab f (settled (readSector img tab M S f))
-  unfolding readSector
-  sector-none h q d = rw (← e, ← g, h, q, d) refl
-
   pub sector-read : {k : ℕ} {t t′ : List ℕ} → v ≡ true → k ≡ index S a → t ≡ over tab (f + 64) (part img (256 * k) 256) → t′ ≡ over t (f + 1) (one 0)
       → out 0 0 img t′ ≡ left img tab f (settled (readSector img tab M S f))
   unfolding readSector

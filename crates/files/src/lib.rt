@@ -38,30 +38,19 @@ use entries::put_entry;
 use names::legal_name;
 use removal::remove;
 use rules::Lookup;
+use rules::block::ACTIVITY;
+use rules::block::BUFFER;
+use rules::block::COMPRESSION;
+use rules::block::ERROR;
+use rules::block::FUNCTION;
+use rules::block::INDEX;
+use rules::block::NAME;
+use rules::block::NEW_NAME;
+use rules::block::PLACE;
+use rules::block::POSITION;
 use taking::free_fault;
 use taking::slot_of;
 use taking::take_off;
-
-// Where the fields of a block stand.
-const FUNCTION: usize = 0;
-
-const ERROR: usize = 1;
-
-const ACTIVITY: usize = 2;
-
-const NAME: usize = 4;
-
-const POSITION: usize = 30;
-
-const INDEX: usize = 34;
-
-const PLACE: usize = 47;
-
-const NEW_NAME: usize = 53;
-
-const COMPRESSION: usize = 59;
-
-const BUFFER: usize = 64;
 
 // What opening stores behind the entry.
 fn open_block(table: &mut [u8], per: u8, f: u16, activity: u8, slot: u32)

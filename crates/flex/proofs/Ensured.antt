@@ -7,7 +7,7 @@ use borrow.Fn.Kind.{PK, RK}
 use borrow.Fn.Kinds.{Dens, resT, endedOf, In, Out}
 use mathlib.Core.List.{List}
 use Prim.Native.Nat.{ℕ}
-use Rattle.flex.specs.Promised.{PresetPromise, ExtensionPromise, CallPromise, CensusPromise, TextPromise, FormatPromise}
+use Rattle.flex.specs.Promised.{PresetPromise, ExtensionPromise, CallPromise, CensusPromise, TextPromise, FormatPromise, RepairPromise}
 use Rattle.flex.proofs.flex_preset.Kinds as preset
 use Rattle.flex.proofs.flex_preset.Reads as presetReads
 use Rattle.flex.proofs.flex_extension.Kinds as extension
@@ -20,6 +20,8 @@ use Rattle.flex.proofs.flex_error_text.Kinds as text
 use Rattle.flex.proofs.flex_error_text.Reads as textReads
 use Rattle.flex.proofs.flex_format.Kinds as format
 use Rattle.flex.proofs.flex_format.Reads as formatReads
+use Rattle.flex.proofs.flex_repair.Kinds as repair
+use Rattle.flex.proofs.flex_repair.Reads as repairReads
 
 -- for any arguments, answer and exit
 pub record Ensures (n : ℕ) (ps : List (PK n)) (r : RK n) (Asked : In n ps) (Learnt Promise : Out n ps r) : Type 0 where
@@ -48,3 +50,7 @@ text-ensured = record { asks = λ κs a. tt; gives = λ κs a r s h. h }
 pub format-ensured : Ensures 2 format.ps format.r formatReads.Asked formatReads.Learnt
     (λ κs a r s. FormatPromise (now (a .0)) (a .1 .0) (a .1 .1 .0) (now (a .1 .1 .1 .0)) (a .1 .1 .1 .1 .0) (a .1 .1 .1 .1 .1 .0) (a .1 .1 .1 .1 .1 .1 .0) (a .1 .1 .1 .1 .1 .1 .1 .0) r (now (s .0)))
 format-ensured = record { asks = λ κs a. tt; gives = λ κs a r s h. h }
+
+pub repair-ensured : Ensures 2 repair.ps repair.r repairReads.Asked repairReads.Learnt
+    (λ κs a r s. RepairPromise (now (a .0)) (now (a .1 .0)) r (now (s .0)))
+repair-ensured = record { asks = λ κs a. tt; gives = λ κs a r s h. h }

@@ -10,6 +10,7 @@ use Rattle.rules.specs.Call.{call}
 use Rattle.rules.specs.Census.{survey}
 use Rattle.rules.specs.Text.{errorText}
 use Rattle.rules.specs.Format.{format}
+use Rattle.rules.specs.Repair.{repair}
 use Rattle.rules.specs.Host.{packed, hostCensus}
 
 -- preset in the table tab: block n, offset i, value v. It leaves the table t
@@ -39,3 +40,7 @@ TextPromise m e r t = told r t ≡ errorText m e
 -- format of an image img lent: last track M, sectors per track S, label, volume number, date. It leaves i in it
 abbrev pub FormatPromise : List ℕ → ℕ → ℕ → List ℕ → ℕ → ℕ → ℕ → ℕ → ℕ → List ℕ → Type 0
 FormatPromise img M S label volume month day year r i = told r i ≡ format img M S label volume month day year
+
+-- repair of an image img lent, with the table tab. It leaves i in it
+abbrev pub RepairPromise : List ℕ → List ℕ → ℕ → List ℕ → Type 0
+RepairPromise img tab r i = told r i ≡ repair img tab

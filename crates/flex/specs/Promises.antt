@@ -4,10 +4,11 @@ use mathlib.Core.List.{List}
 use Prim.Native.Nat.{ℕ}
 use Rattle.rules.specs.Text.{errorText}
 use Rattle.rules.specs.Format.{format}
+use Rattle.rules.specs.Repair.{repair}
 use Rattle.rules.specs.Host.{hostCensus}
 use Rattle.laws.specs.Single.{single-told}
 use Rattle.census_laws.specs.Accepted.{single-survey}
-use Rattle.flex.specs.Promised.{PresetPromise, ExtensionPromise, CallPromise, CensusPromise, TextPromise, FormatPromise}
+use Rattle.flex.specs.Promised.{PresetPromise, ExtensionPromise, CallPromise, CensusPromise, TextPromise, FormatPromise, RepairPromise}
 
 pub flex-preset-single : (tab : List ℕ) (n i v : ℕ) {r r′ : ℕ} {t t′ : List ℕ} → PresetPromise tab n i v r t → PresetPromise tab n i v r′ t′
     → (r ≡ r′) × (t ≡ t′)
@@ -31,3 +32,6 @@ flex-error-text-single m e p q = single-told (errorText m e) _ _ _ _ p q
 pub flex-format-single : (img : List ℕ) (M S : ℕ) (label : List ℕ) (volume month day year : ℕ) {r r′ : ℕ} {i i′ : List ℕ}
     → FormatPromise img M S label volume month day year r i → FormatPromise img M S label volume month day year r′ i′ → (r ≡ r′) × (i ≡ i′)
 flex-format-single img M S label volume month day year p q = single-told (format img M S label volume month day year) _ _ _ _ p q
+
+pub flex-repair-single : (img tab : List ℕ) {r r′ : ℕ} {i i′ : List ℕ} → RepairPromise img tab r i → RepairPromise img tab r′ i′ → (r ≡ r′) × (i ≡ i′)
+flex-repair-single img tab p q = single-told (repair img tab) _ _ _ _ p q

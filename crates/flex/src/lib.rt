@@ -1,6 +1,6 @@
-// The six entries as a host program in C or Rust reaches them: numbers and byte slices, each slice a pointer and its length.
+// The seven entries as a host program in C or Rust reaches them: numbers and byte slices, each slice a pointer and its length.
 // Nothing else stands here; the prototypes are in host/flex.h. What each promises is a predicate of specs/Promised.antt.
-ghost use Rattle.flex.specs.Promised.{PresetPromise, ExtensionPromise, CallPromise, CensusPromise, TextPromise, FormatPromise};
+ghost use Rattle.flex.specs.Promised.{PresetPromise, ExtensionPromise, CallPromise, CensusPromise, TextPromise, FormatPromise, RepairPromise};
 
 // Preset: the answer.
 #[no_mangle]
@@ -58,4 +58,12 @@ pub extern "C" fn flex_format(
     ensures { λ r. ⌜ FormatPromise (now (image .entry)) last per (now (label .entry)) volume month day year r (now (image .exit)) ⌝ }
 {
     format::format(image, last, per, label, volume, month, day, year) as u32
+}
+
+// Repair: the answer.
+#[no_mangle]
+pub extern "C" fn flex_repair(image: &mut [u8], table: &[u8]) -> u32
+    ensures { λ r. ⌜ RepairPromise (now (image .entry)) (now (table .entry)) r (now (image .exit)) ⌝ }
+{
+    repair::repair(image, table) as u32
 }

@@ -9,7 +9,7 @@ use Rattle.rules.specs.Transfer.{transfer, close, reading, writing}
 use Rattle.transfer.specs.Given.{numberOf, byteOf, Proper}
 use Rattle.transfer.specs.declared.Given.{Given}
 use Rattle.transfer.specs.declared.Given.the-variants.{Byte, Refused}
-use Rattle.rules.specs.Files.{openRead, openWrite, rewind, openDirectory, nextSlot, readSector, delete, rename}
+use Rattle.rules.specs.Files.{openRead, openWrite, rewind, openDirectory, nextSlot, putSlot, readSector, writeSector, delete, rename}
 use Rattle.rules.specs.Call.{perform}
 
 -- what a function without a byte leaves, as a reply
@@ -47,19 +47,28 @@ module _ (img tab : List ℕ) (M S f b : ℕ) {code x y a : ℕ} {i t : List ℕ
   unfolding perform
   does-7 k h = rw (← c, k) (plainly e h)
 
+  pub does-8 : code ≡ 8 → out a 0 i t ≡ left img tab f (settled (putSlot img tab M S f)) → out x y i t ≡ left img tab f (settled (perform img tab M S f b))
+  unfolding perform
+  does-8 k h = rw (← c, k) (plainly e h)
+
   pub does-9 : code ≡ 9 → out a 0 i t ≡ left img tab f (settled (readSector img tab M S f)) → out x y i t ≡ left img tab f (settled (perform img tab M S f b))
   unfolding perform
   does-9 k h = rw (← c, k) (plainly e h)
+
+  pub does-10 : code ≡ 10 → out a 0 i t ≡ left img tab f (settled (writeSector img tab M S f)) → out x y i t ≡ left img tab f (settled (perform img tab M S f b))
+  unfolding perform
+  does-10 k h = rw (← c, k) (plainly e h)
 
   pub does-12 : code ≡ 12 → out a 0 i t ≡ left img tab f (settled (delete img tab M S f)) → out x y i t ≡ left img tab f (settled (perform img tab M S f b))
   unfolding perform
   does-12 k h = rw (← c, k) (plainly e h)
 
-  pub does-13 : (code ≡ 0 → ⊥) → (code ≡ 1 → ⊥) → (code ≡ 2 → ⊥) → (code ≡ 4 → ⊥) → (code ≡ 5 → ⊥) → (code ≡ 6 → ⊥) → (code ≡ 7 → ⊥) → (code ≡ 9 → ⊥) → (code ≡ 12 → ⊥)
+  pub does-13 : (code ≡ 0 → ⊥) → (code ≡ 1 → ⊥) → (code ≡ 2 → ⊥) → (code ≡ 4 → ⊥) → (code ≡ 5 → ⊥) → (code ≡ 6 → ⊥) → (code ≡ 7 → ⊥) → (code ≡ 8 → ⊥)
+      → (code ≡ 9 → ⊥) → (code ≡ 10 → ⊥) → (code ≡ 12 → ⊥)
       → out a 0 i t ≡ left img tab f (settled (rename img tab M S f)) → out x y i t ≡ left img tab f (settled (perform img tab M S f b))
   unfolding perform
-  does-13 h0 h1 h2 h4 h5 h6 h7 h9 h12 h =
-      rw (← c, ne-eqb code 0 h0, ne-eqb code 1 h1, ne-eqb code 2 h2, ne-eqb code 4 h4, ne-eqb code 5 h5, ne-eqb code 6 h6, ne-eqb code 7 h7, ne-eqb code 9 h9, ne-eqb code 12 h12)
+  does-13 h0 h1 h2 h4 h5 h6 h7 h8 h9 h10 h12 h =
+      rw (← c, ne-eqb code 0 h0, ne-eqb code 1 h1, ne-eqb code 2 h2, ne-eqb code 4 h4, ne-eqb code 5 h5, ne-eqb code 6 h6, ne-eqb code 7 h7, ne-eqb code 8 h8, ne-eqb code 9 h9, ne-eqb code 10 h10, ne-eqb code 12 h12)
       (plainly e h)
 
 module _ (img tab : List ℕ) (M S f b : ℕ) {code x y a : ℕ} {t : List ℕ} (c : code ≡ getD tab (f + 0) 0) (e : (x ≡ a) × (y ≡ 0)) where

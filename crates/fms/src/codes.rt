@@ -4,12 +4,12 @@ ghost use Rattle.rules.specs.Bytes.{within};
 ghost use Rattle.rules.specs.Block.{idle};
 ghost use Rattle.rules.specs.Call.{served, fits, misfit};
 
-// Is the code one of the ten?
+// Is the code one of the twelve?
 pub fn is_served(code: u8) -> bool
     ensures { λ r. ⌜ r ≡ served code ⌝ }
 {
     match code {
-        0..=2 | 4..=7 | 9 | 12..=13 => true,
+        0..=2 | 4..=10 | 12..=13 => true,
         _ => false,
     }
 }
@@ -48,6 +48,7 @@ pub fn takes(code: u8, act: u8) -> bool
         }
         5 => act == 1,
         7 => act == 16,
+        8 => act == 16,
         _ => is_idle(act),
     }
 }

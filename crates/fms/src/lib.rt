@@ -22,6 +22,8 @@ use files::open_write;
 use files::read_sector;
 use files::rename;
 use files::rewind;
+use raw::put_slot;
+use raw::write_sector;
 use transfer::Given;
 use transfer::close;
 use transfer::read;
@@ -78,7 +80,9 @@ fn perform_by(image: &mut [u8], table: &mut [u8], last: u8, per: u8, f: u16, byt
         5 => plain(rewind(table, f)),
         6 => plain(open_directory(table, f)),
         7 => plain(next_slot(image, table, last, per, f)),
+        8 => plain(put_slot(image, table, last, per, f)),
         9 => plain(read_sector(image, table, last, per, f)),
+        10 => plain(write_sector(image, table, last, per, f)),
         12 => plain(delete(image, table, last, per, f)),
         _ => plain(rename(image, table, last, per, f)),
     }

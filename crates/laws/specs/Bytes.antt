@@ -1,10 +1,11 @@
 -- Bytes in a list: numbers of two bytes, parts, and what stands where after a store.
-use mathlib.Core.Path.{_≡_, refl, sym, ap, ap₂, _∙_}
+use mathlib.Core.Path.{_≡_, refl, sym, ap, ap₂, _∙_, subst}
 use mathlib.Core.Bool.{Bool, true, false}
 use mathlib.Core.List.{List, [], _∷_, _++_}
 use Prim.Native.Nat.{ℕ, zero, suc, _+_, _-_, _*_, _/_, _%_, _≤_, _<_}
 use native.Mathlib.Numerals.{add-one}
 use native.Mathlib.Omega.{arith}
+use native.Mathlib.Decide.{decLt}
 use lib.ListN.{length, getD, set, take, drop, List·getD-eq-default, length-set, length-replicate}
 use lib.Seq.{sets, length-sets, getD-set-other, getD-set-same, set-out, ext-getD, drop-cons, take-all}
 use borrow.Author.Tests.{eq-eqb, ne-eqb, eqb-true}
@@ -44,6 +45,15 @@ two-back v x y h a b = omega arith
 pub word-put : (m : List ℕ) (p v : ℕ) → v < 65536 → getD m p 0 ≡ v / 256 % 256 → getD m (p + 1) 0 ≡ v % 256 → wordAt m p ≡ v
 unfolding wordAt
 word-put m p v h a b = two-back v (getD m p 0) (getD m (p + 1) 0) h a b
+
+-- the two bytes of a number
+pub word-bytes : (m : List ℕ) (p v : ℕ) → wordAt m p ≡ v → getD m p 0 < 256 → getD m (p + 1) 0 < 256 → (getD m p 0 ≡ v / 256 % 256) × (getD m (p + 1) 0 ≡ v % 256)
+unfolding wordAt
+word-bytes m p v e a b = (omega arith, omega arith)
+
+pub part-two : (m : List ℕ) (p v : ℕ) → wordAt m p ≡ v → getD m p 0 < 256 → getD m (p + 1) 0 < 256 → part m p 2 ≡ two v
+unfolding part two
+part-two m p v e a b = let w = word-bytes m p v e a b in ap₂ (λ (x y : ℕ). x ∷ y ∷ []) (w .0) (w .1)
 
 -- ---- lengths
 
@@ -95,6 +105,9 @@ part-at m at (suc n) zero h = let e : at ≡ at + 0 = omega arith in ap (λ (k :
 part-at m at (suc n) (suc i) h =
     let e : at + 1 + i ≡ at + suc i = omega arith in
     part-at m (at + 1) n i (omega arith) ∙ ap (λ (k : ℕ). getD m k 0) e
+
+pub part-head : (m : List ℕ) (p n : ℕ) → getD m p 0 ≡ getD (part m p (suc n)) 0 0
+part-head m p n = sym (part-at m p (suc n) 0 (omega arith) ∙ ap (λ (x : ℕ). getD m x 0) (omega arith))
 
 -- a turn of a loop over n bytes, and its end
 pub part-more : (m : List ℕ) (at n : ℕ) → 0 < n → part m at n ≡ getD m at 0 ∷ part m (at + 1) (n - 1)
@@ -215,6 +228,24 @@ sets-in (v ∷ vs) m at (suc i) h k =
 -- what lies in it is what was stored
 pub over-in : (m : List ℕ) (at : ℕ) (vs : List ℕ) (i : ℕ) → i < length vs → at + i < length m → getD (over m at vs) (at + i) 0 ≡ getD vs i 0
 over-in m at vs i h k = ap (λ (l : List ℕ). getD l (at + i) 0) (over-is-sets m at vs) ∙ sets-in vs m at i h k
+
+-- each byte after a store: the one that was stored, where the store covers it and the list reaches, else the one that was there
+pub over-by : (P : ℕ → Type 0) (m : List ℕ) (at : ℕ) (vs : List ℕ) (p : ℕ) → ((at ≤ p → p < at + length vs → p < length m → ⊥) → P (getD m p 0))
+    → ((i : ℕ) → i < length vs → at + i ≡ p → p < length m → P (getD vs i 0)) → P (getD (over m at vs) p 0)
+over-by P m at vs p f g = go (decLt p at) (decLt p (at + length vs)) (decLt p (length m))
+  where
+    off : (at ≤ p → p < at + length vs → ⊥) → P (getD (over m at vs) p 0)
+    off n = subst P (sym (over-other m at vs p n)) (f (λ x y z. n x y))
+
+    go : Dec (p < at) → Dec (p < at + length vs) → Dec (p < length m) → P (getD (over m at vs) p 0)
+    go (yes x) y z = off (λ u w. omega arith)
+    go (no x) (no y) z = off (λ u w. omega arith)
+    go (no x) (yes y) (no z) = subst P (sym (byte-out m p (omega arith)) ∙ byte-out (over m at vs) p (omega (arith, length-over m at vs))) (f (λ u w t. z t))
+    go (no x) (yes y) (yes z) =
+        let e : at + (p - at) ≡ p = omega arith in
+        let q : getD (over m at vs) p 0 ≡ getD vs (p - at) 0 =
+        subst (λ (n : ℕ). getD (over m at vs) n 0 ≡ getD vs (p - at) 0) e (over-in m at vs (p - at) (omega arith) (omega arith)) in
+        subst P (sym q) (g (p - at) (omega arith) e z)
 
 -- nothing stored yet: where a loop begins
 pub over-none : (m : List ℕ) (at : ℕ) (vs : List ℕ) → m ≡ over m at (take 0 vs)

@@ -19,6 +19,26 @@ pub each-append : {A : Type 0} (P : A → Type 0) (xs ys : List A) → Each P xs
 each-append P [] ys a b = b
 each-append P (x ∷ xs) ys a b = (a .0, each-append P xs ys (a .1) b)
 
+pub each-left : {A : Type 0} (P : A → Type 0) (xs ys : List A) → Each P (xs ++ ys) → Each P xs
+each-left P [] ys h = tt
+each-left P (x ∷ xs) ys h = (h .0, each-left P xs ys (h .1))
+
+pub each-right : {A : Type 0} (P : A → Type 0) (xs ys : List A) → Each P (xs ++ ys) → Each P ys
+each-right P [] ys h = h
+each-right P (x ∷ xs) ys h = each-right P xs ys (h .1)
+
+-- some elements of a list, in its order: those at whose place the mask has true. Behind the end of the mask none is chosen
+abbrev pub chosen : {A : Type 0} → List Bool → List A → List A
+chosen [] xs = []
+chosen (b ∷ bs) [] = []
+chosen (b ∷ bs) (x ∷ xs) = pick b (x ∷ chosen bs xs) (chosen bs xs)
+
+pub each-chosen : {A : Type 0} (P : A → Type 0) (bs : List Bool) (xs : List A) → Each P xs → Each P (chosen bs xs)
+each-chosen P [] xs h = tt
+each-chosen P (b ∷ bs) [] h = tt
+each-chosen P (b ∷ bs) (x ∷ xs) h =
+    let k = each-chosen P bs xs (h .1) in pick-all (Each P) b (x ∷ chosen bs xs) (chosen bs xs) (h .0, k) k
+
 -- what follows of each
 pub each-so : {A : Type 0} (P Q : A → Type 0) (xs : List A) → ((x : A) → P x → Q x) → Each P xs → Each Q xs
 each-so P Q [] f h = tt
@@ -29,6 +49,11 @@ pub each-at : {A : Type 0} (P : A → Type 0) (xs : List A) (i : ℕ) (d : A) �
 each-at P [] i d h l = absurd (omega arith)
 each-at P (x ∷ xs) zero d h l = h .0
 each-at P (x ∷ xs) (suc i) d h l = each-at P xs i d (h .1) (omega arith)
+
+-- and what holds at each place holds of each
+pub each-place : {A : Type 0} (P : A → Type 0) (xs : List A) (d : A) → ((i : ℕ) → i < length xs → P (getD xs i d)) → Each P xs
+each-place P [] d h = tt
+each-place P (x ∷ xs) d h = (h 0 (omega arith), each-place P xs d (λ i b. h (suc i) (omega arith)))
 
 -- what holds of each holds of a member
 pub each-member : (P : ℕ → Type 0) (xs : List ℕ) (x : ℕ) → Each P xs → member x xs ≡ true → P x

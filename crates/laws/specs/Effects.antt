@@ -18,7 +18,7 @@ use Rattle.laws.specs.Tests.{either, within-is, pick-all, pick-cases}
 use Rattle.laws.specs.Bytes.{length-one}
 use Rattle.laws.specs.Each.{Each, each-append, each-at, each-member, member-there, among, among-each}
 use Rattle.laws.specs.Small.{Small, small-each}
-use Rattle.laws.specs.Stores.{length-stored, length-puts, puts-off, puts-other, Inside, Within, small-stored, small-puts}
+use Rattle.laws.specs.Stores.{length-stored, length-puts, puts-off, Inside, Within, small-stored, small-puts}
 use Rattle.laws.specs.Fair.{Run, run-one, GoodPut, good-put, puts-within, puts-small, stores-inside, stores-small, Done, Fair, fair-still, fair-more, fair-then}
 use Rattle.laws.specs.Facts.{Given, refusals, mostStores, inChecks, askedNumbers, asked-fair}
 
@@ -37,6 +37,10 @@ refusalNumbers = 1 ∷ 2 ∷ 3 ∷ 4 ∷ 5 ∷ 7 ∷ 8 ∷ 9 ∷ 10 ∷ 11 ∷ 1
 abbrev pub answerNumbers : List ℕ
 answerNumbers = 0 ∷ refusalNumbers
 
+-- what repair gives back
+abbrev pub repairNumbers : List ℕ
+repairNumbers = 0 ∷ 2 ∷ 13 ∷ 41 ∷ 42 ∷ 43 ∷ []
+
 -- those of any function are such
 Stated : List ℕ → Type 0
 Stated es = among es refusalNumbers ≡ true
@@ -51,8 +55,10 @@ refusals-stated code act =
     (pick-all Stated (eqb code 5) _ _ refl
     (pick-all Stated (eqb code 6) _ _ refl
     (pick-all Stated (eqb code 7) _ _ refl
+    (pick-all Stated (eqb code 8) _ _ refl
     (pick-all Stated (eqb code 9) _ _ refl
-    (pick-all Stated (eqb code 12) _ _ refl refl))))))))
+    (pick-all Stated (eqb code 10) _ _ refl
+    (pick-all Stated (eqb code 12) _ _ refl refl))))))))))
 
 -- what `asked` may come to, with all numbers together
 asked-stated : (img tab : List ℕ) (f b : ℕ)
@@ -179,20 +185,14 @@ call-refused img tab n b h k =
     subst (λ (e : Effect). answer e ≢ 0 → e ≡ effect (answer e) 0 [] (put 1 (one (answer e)) ∷ [])) (sym (call-right img tab n b h k))
     (settled-refused (asked img tab (blockAt n) b))
 
--- every other block is untouched
-pub lawful-others : (G : Type 0) (img tab : List ℕ) (n : ℕ) (es : List ℕ) (m : ℕ) (e : Effect) → Lawful G img tab (blockAt n) es m e → G
-    → (j i : ℕ) → j ≢ n → i < blockLength → byteAt (puts tab (blockAt n) (onBlock e)) (blockAt j + i) ≡ byteAt tab (blockAt j + i)
-lawful-others G img tab n es m e l g j i d h = puts-other (onBlock e) tab n j i d h (l .within g)
-
 -- ---- preset and default extension
 
 -- a preset that is allowed lies inside the block
-pub presettable-is : (i : ℕ) → presettable i ≡ true → i < 64
+pub presettable-is : (i : ℕ) → presettable i ≡ true → i < blockLength
 unfolding presettable
 presettable-is i h =
-    either (within 3 14 i) _ h (λ e. omega (arith, within-is 3 14 i e))
-    (λ k. either (within 25 27 i) _ k (λ e. omega (arith, within-is 25 27 i e))
-    (λ l. either (within 30 31 i) _ l (λ e. omega (arith, within-is 30 31 i e)) (λ e. omega (arith, within-is 53 63 i e))))
+    either (within 3 27 i) _ h (λ e. omega (arith, within-is 3 27 i e))
+    (λ k. either (within 30 31 i) _ k (λ e. omega (arith, within-is 30 31 i e)) (λ e. omega (arith, within-is 53 319 i e)))
 
 -- lawful, without a store into the image, and on a refusal nothing is stored
 module _ (img tab : List ℕ) (b f : ℕ) (es : List ℕ) where
@@ -221,7 +221,7 @@ preset-quiet img tab n i v =
     Q : Effect → Type 0
     Q e = Quiet img tab v (blockAt n) presetNumbers e
 
-    stored-one : i < 64 → Q (effect 0 0 [] (put i (one v) ∷ []))
+    stored-one : i < blockLength → Q (effect 0 0 [] (put i (one v) ∷ []))
     stored-one h =
         quiet-done img tab v (blockAt n) presetNumbers (put i (one v) ∷ []) refl
         (good-put (Given img tab v) i 1 _ (run-one (Given img tab v) v (λ g. g .byte)) (omega arith), tt)

@@ -14,13 +14,13 @@ use Rattle.rules.specs.Directory.{firstOfDirectory, mostOfDirectory, firstSlotO
 use Rattle.rules.specs.Outcome.{Outcome}
 use Rattle.rules.specs.Block.{activityField, functionField, nameField, startField, positionField, recordField, indexField, placeField, newNameField, compressionField, bufferField, functionIn, activityIn, driveIn, sizeIn, positionIn, indexIn, nameIn, newNameIn, placeIn, inUse}
 use Rattle.rules.specs.Transfer.{nextToRead, loadPuts, load, reading, onFree, offFree, slotIn, linked, newStart, newSize, takeStores, takePuts, takeFor, takeSector, sent, fill, writing, transfer, shut, mark, closeWriting, close}
-use Rattle.rules.specs.Files.{opened, openRead, newEntry, growStores, grow, openWrite, rewind, openDirectory, shown, nextSlot, readSector, writeProtected, deleteProtected, readProtected, hangStores, gone, remove, delete, rename}
+use Rattle.rules.specs.Files.{opened, openRead, newEntry, growStores, grow, openWrite, rewind, openDirectory, shown, nextSlot, putSlot, readSector, writeSector, writeProtected, deleteProtected, readProtected, hangStores, gone, remove, delete, rename}
 use Rattle.rules.specs.Call.{served, fits, misfit, checked, perform, asked}
 use Rattle.laws.specs.Tests.{clash, either, pick-all, pick-cases, pick-each}
 use Rattle.laws.specs.Bytes.{length-one}
 use Rattle.laws.specs.Each.{Each, each-append, each-own}
 use Rattle.laws.specs.Small.{Small, small-one}
-use Rattle.laws.specs.Addresses.{Shaped, shape-is, sectors-many, sector-inside, track-inside, data-is, data-high}
+use Rattle.laws.specs.Addresses.{Shaped, shape-is, sectors-many, sector-inside, track-inside, data-is, data-high, sector-is, index-high}
 use Rattle.laws.specs.Slots.{InDirectory, directory-in, IsSlot, slot-is, OneOf, find-is, vacancy-is, placed-is}
 use Rattle.laws.specs.Fair.{onSlot-all, onNone-all, orElse-all, Run, run-one, run-two, run-six, run-zeros, run-part, run-fresh, run-place, run-append, GoodPut, GoodStore, good-put, good-store, length-linked, good-linked, Fair, fair-still, fair-done, fair-more, fair-then}
 
@@ -50,8 +50,14 @@ inOpenWrite = 21 ∷ 5 ∷ 3 ∷ 7 ∷ 10 ∷ []
 abbrev pub inNextSlot : List ℕ
 inNextSlot = 5 ∷ 8 ∷ []
 
+abbrev pub inPutSlot : List ℕ
+inPutSlot = 5 ∷ []
+
 abbrev pub inReadSector : List ℕ
 inReadSector = 9 ∷ []
+
+abbrev pub inWriteSector : List ℕ
+inWriteSector = 10 ∷ []
 
 abbrev pub inDelete : List ℕ
 inDelete = 21 ∷ 5 ∷ 4 ∷ 2 ∷ 12 ∷ 11 ∷ 9 ∷ []
@@ -69,9 +75,11 @@ refusals code act =
     (pick (eqb code 5) []
     (pick (eqb code 6) []
     (pick (eqb code 7) inNextSlot
+    (pick (eqb code 8) inPutSlot
     (pick (eqb code 9) inReadSector
+    (pick (eqb code 10) inWriteSector
     (pick (eqb code 12) inDelete
-    inRename))))))))
+    inRename))))))))))
 
 -- how many stores it may make
 unfoldable pub mostStores : ℕ → ℕ → ℕ
@@ -83,9 +91,11 @@ mostStores code act =
     (pick (eqb code 5) 0
     (pick (eqb code 6) 0
     (pick (eqb code 7) 0
+    (pick (eqb code 8) 1
     (pick (eqb code 9) 0
+    (pick (eqb code 10) 1
     (pick (eqb code 12) 3
-    1))))))))
+    1))))))))))
 
 -- the numbers of the checks that all calls have: shape and drive, function, activity
 abbrev pub inChecks : List ℕ
@@ -115,6 +125,9 @@ module _ (img tab : List ℕ) (f b : ℕ) (z : Shaped img) where
 
   data-inside : (a : ℕ) → isData M S a ≡ true → 256 * index S a + 256 ≤ N
   data-inside a h = sector-inside img z (index S a) (data-high M S a (data-is M S a h))
+
+  there-inside : (a : ℕ) → isSector M S a ≡ true → 256 * index S a + 256 ≤ N
+  there-inside a h = sector-inside img z (index S a) (index-high 0 M S a (sector-is M S a h))
 
   one-is : (o : ℕ) → OneOf img M S o → IsSlot M S o
   one-is o p = slot-is img M S (z .shape .sectors) o (p .one-of)
@@ -406,6 +419,26 @@ module _ (img tab : List ℕ) (f b : ℕ) (z : Shaped img) where
       (fair-still G N inReadSector 0 _ (good-put G bufferField 256 _ (run-part G img _ 256 (λ g. g .image)) (omega arith), tt))
       refl
 
+  -- ---- put slot, write sector
+
+  pub put-slot-fair : F inPutSlot 1 (putSlot img tab M S f)
+  unfolding putSlot member
+  put-slot-fair =
+      onSlot-all (F inPutSlot 1) (slotIn img tab M S f) 5 5 _ refl refl
+      (λ slot e. let s = one-is slot (placed-is img M S _ slot e .0) in
+      fair-done G N inPutSlot 1 _ _ (omega arith)
+      (good-store G N (slot / 256) (slot % 256) 24 _ (run-part G tab _ 24 (λ g. g .table)) (omega (arith, s)) (slot-inside slot s), tt)
+      tt)
+
+  pub write-sector-fair : F inWriteSector 1 (writeSector img tab M S f)
+  unfolding writeSector member
+  write-sector-fair =
+      pick-cases (F inWriteSector 1) (isSector M S (positionIn tab f)) _ _
+      (λ h. fair-done G N inWriteSector 1 _ _ (omega arith)
+      (good-store G N (index S (positionIn tab f)) 0 256 _ (run-part G tab _ 256 (λ g. g .table)) (omega arith) (there-inside (positionIn tab f) h), tt)
+      tt)
+      (λ h. refl)
+
   -- ---- delete, rename
 
   good-gone : (slot : ℕ) → Each (GoodPut G) (gone img slot)
@@ -484,8 +517,10 @@ module _ (img tab : List ℕ) (f b : ℕ) (z : Shaped img) where
       (pick-each F (eqb (functionIn tab f) 5) _ _ _ _ _ _ rewind-fair
       (pick-each F (eqb (functionIn tab f) 6) _ _ _ _ _ _ open-directory-fair
       (pick-each F (eqb (functionIn tab f) 7) _ _ _ _ _ _ next-slot-fair
+      (pick-each F (eqb (functionIn tab f) 8) _ _ _ _ _ _ put-slot-fair
       (pick-each F (eqb (functionIn tab f) 9) _ _ _ _ _ _ read-sector-fair
-      (pick-each F (eqb (functionIn tab f) 12) _ _ _ _ _ _ delete-fair rename-fair))))))))
+      (pick-each F (eqb (functionIn tab f) 10) _ _ _ _ _ _ write-sector-fair
+      (pick-each F (eqb (functionIn tab f) 12) _ _ _ _ _ _ delete-fair rename-fair))))))))))
 
 -- what a call may come to: any image, any table
 module _ (img tab : List ℕ) (f b : ℕ) where

@@ -21,7 +21,7 @@ use Rattle.laws.specs.Tests.{within-is}
 use Rattle.laws.specs.Addresses.{Shape}
 use Rattle.chains.specs.Addresses.{shape-right, absurd-bool}
 use Rattle.laws.specs.Stores.{puts-off}
-use Rattle.demands.specs.Ledger.{noFile, Block, closed, listing, reading, writing, Ledger, Request, Fate, activity, block, transferred, shutBlock, rewound, shownNext, performed, called, ended, request}
+use Rattle.demands.specs.Ledger.{writesRaw, noFile, Block, closed, listing, reading, writing, Ledger, Request, Fate, activity, block, transferred, shutBlock, rewound, shownNext, slotPut, performed, called, ended, request}
 use Rattle.met.specs.Relation.{tb, opens, Reading, Writing, Keeps, Agrees, tp-same}
 use Rattle.met.specs.Quiet.{turned, activity-is, quiet, idle-quiet, idle-opens}
 use Rattle.met.specs.Meets.{Meets, meets-pick, meets-unless, Met, settles}
@@ -31,17 +31,24 @@ use Rattle.met.specs.Fills.{close-meets}
 use Rattle.met.specs.Opens.{open-read-meets}
 use Rattle.met.specs.Grows.{open-write-meets}
 use Rattle.met.specs.Removes.{delete-meets, rename-meets}
-use Rattle.met.specs.Lists.{open-directory-meets, next-slot-meets, read-sector-meets}
-use Rattle.rules.specs.Files.{nextSlot}
-use Rattle.rules.specs.Files.{rewind}
+use Rattle.met.specs.Lists.{open-directory-meets, next-slot-meets, put-slot-meets, read-sector-meets, write-sector-meets}
+use Rattle.rules.specs.Files.{rewind, nextSlot, putSlot}
 
 -- a function of other codes takes an idle block
-fits-idle : (code : ℕ) (o : Block) → code ≢ 0 → code ≢ 4 → code ≢ 5 → code ≢ 7 → fits code (activity o) ≡ true → opens o ≡ 0
+fits-idle : (code : ℕ) (o : Block) → code ≢ 0 → code ≢ 4 → code ≢ 5 → within 7 8 code ≡ false → fits code (activity o) ≡ true → opens o ≡ 0
 unfolding fits idle
 fits-idle code closed a b c d h = refl
 fits-idle code (listing p) a b c d h = refl
-fits-idle code (reading s j i) a b c d h = absurd-bool (rw (ne-eqb code 0 a, ne-eqb code 4 b, ne-eqb code 5 c, ne-eqb code 7 d) at h) refl
-fits-idle code (writing s ub) a b c d h = absurd-bool (rw (ne-eqb code 0 a, ne-eqb code 4 b, ne-eqb code 5 c, ne-eqb code 7 d) at h) refl
+fits-idle code (reading s j i) a b c d h = absurd-bool (rw (ne-eqb code 0 a, ne-eqb code 4 b, ne-eqb code 5 c, d) at h) refl
+fits-idle code (writing s ub) a b c d h = absurd-bool (rw (ne-eqb code 0 a, ne-eqb code 4 b, ne-eqb code 5 c, d) at h) refl
+
+-- none of these two
+not-there : (lo code : ℕ) → code ≢ lo → code ≢ suc lo → within lo (suc lo) code ≡ false
+not-there lo code a b = go (within lo (suc lo) code) refl
+  where
+    go : (u : Bool) → within lo (suc lo) code ≡ u → u ≡ false
+    go false e = refl
+    go true e = let w = within-is lo (suc lo) code e in absurd (omega (arith, a, b, w))
 
 fits-at : (code k : ℕ) (o : Block) → code ≡ k → fits code (activity o) ≡ true → fits k (activity o) ≡ true
 fits-at code k o e h = ap (λ (x : ℕ). fits x (activity o)) (sym e) ∙ h
@@ -81,11 +88,19 @@ module _ (M S : ℕ) (z : Shape M S) (img tab : List ℕ) (a : Ledger) (r : Agre
 
   list-meets : (o : Block) → getD (a .blocks) n closed ≡ o → fits 7 (activity o) ≡ true
       → Meets M S img tab n (nextSlot img tab M S (320 * n)) (shownNext M S a n q o)
-  unfolding fits
+  unfolding fits within
   list-meets closed e h = absurd-bool h refl
   list-meets (listing p) e h = next-slot-meets M S z img tab a r n hn q p e
   list-meets (reading s j i) e h = absurd-bool h refl
   list-meets (writing s ub) e h = absurd-bool h refl
+
+  put-meets : writesRaw (getD tab (320 * n + 0) 0) ≡ true → (o : Block) → getD (a .blocks) n closed ≡ o → fits 8 (activity o) ≡ true
+      → Meets M S img tab n (putSlot img tab M S (320 * n)) (slotPut M S a n q o)
+  unfolding fits within
+  put-meets raw closed e h = absurd-bool h refl
+  put-meets raw (listing p) e h = put-slot-meets M S z img tab a r n hn raw q p e
+  put-meets raw (reading s j i) e h = absurd-bool h refl
+  put-meets raw (writing s ub) e h = absurd-bool h refl
 
   abbrev code : ℕ
   code = getD tab (320 * n + 0) 0
@@ -107,10 +122,12 @@ module _ (M S : ℕ) (z : Shape M S) (img tab : List ℕ) (a : Ledger) (r : Agre
       (λ n4. by-code 5 _ _ _ _ (λ e5. back-meets (block a n) refl (ok 5 (block a n) (eqb-true code 5 e5) h))
       (λ n5. by-code 6 _ _ _ _ (λ e6. open-directory-meets M S z img tab a r n hn q)
       (λ n6. by-code 7 _ _ _ _ (λ e7. list-meets (block a n) refl (ok 7 (block a n) (eqb-true code 7 e7) h))
-      (λ n7. let oz = fits-idle code (block a n) (eqb-false code 0 n0) (eqb-false code 4 n4) (eqb-false code 5 n5) (eqb-false code 7 n7) h in
+      (λ n7. by-code 8 _ _ _ _ (λ e8. put-meets (ap writesRaw (eqb-true code 8 e8)) (block a n) refl (ok 8 (block a n) (eqb-true code 8 e8) h))
+      (λ n8. let oz = fits-idle code (block a n) (eqb-false code 0 n0) (eqb-false code 4 n4) (eqb-false code 5 n5) (not-there 7 code (eqb-false code 7 n7) (eqb-false code 8 n8)) h in
       by-code 9 _ _ _ _ (λ e9. read-sector-meets M S z img tab a r n hn b oz)
-      (λ n9. by-code 12 _ _ _ _ (λ e12. delete-meets M S z img tab a r n hn oz b)
-      (λ n12. rename-meets M S z img tab a r n hn oz b)))))))))
+      (λ n9. by-code 10 _ _ _ _ (λ e10. write-sector-meets M S z img tab a r n hn (ap writesRaw (eqb-true code 10 e10)) q refl)
+      (λ n10. by-code 12 _ _ _ _ (λ e12. delete-meets M S z img tab a r n hn oz b)
+      (λ n12. rename-meets M S z img tab a r n hn oz b)))))))))))
 
   misfit-pos : (code act : ℕ) → misfit code act ≢ 0
   unfolding misfit
@@ -143,25 +160,20 @@ idle-act x h = go (ℕ-discrete x 0)
     go (yes q) = omega arith
     go (no q) = let y : x ≡ 16 = eqb-true x 16 (rw (ne-eqb x 0 q) at h) in omega arith
 
--- an offset that can be preset is a byte of name, date, position, new name or the drive: never activity nor place
+-- an offset that can be preset: never activity nor place
 pub record Offset (i : ℕ) : Type 0 where
   pub low : 3 ≤ i
-  pub high : i < 64
+  pub high : i < 320
   pub not-place : (47 ≤ i → i < 50 → ⊥)
 
 pub offset-is : (i : ℕ) → presettable i ≡ true → Offset i
 unfolding presettable
-offset-is i h = go (within 3 14 i) refl (within 25 27 i) refl (within 30 31 i) refl h
+offset-is i h = go (within 3 27 i) refl (within 30 31 i) refl h
   where
-    span : (lo hi : ℕ) → within lo hi i ≡ true → (lo ≤ i) × (i ≤ hi)
-    span lo hi e = within-is lo hi i e
-
-    go : (u : Bool) → within 3 14 i ≡ u → (v : Bool) → within 25 27 i ≡ v → (w : Bool) → within 30 31 i ≡ w
-        → pick u true (pick v true (pick w true (within 53 63 i))) ≡ true → Offset i
-    go true e v f w g h = let s = span 3 14 e in record { low = omega arith; high = omega arith; not-place = λ x y. omega arith }
-    go false e true f w g h = let s = span 25 27 f in record { low = omega arith; high = omega arith; not-place = λ x y. omega arith }
-    go false e false f true g h = let s = span 30 31 g in record { low = omega arith; high = omega arith; not-place = λ x y. omega arith }
-    go false e false f false g h = let s = span 53 63 h in record { low = omega arith; high = omega arith; not-place = λ x y. omega arith }
+    go : (u : Bool) → within 3 27 i ≡ u → (v : Bool) → within 30 31 i ≡ v → pick u true (pick v true (within 53 319 i)) ≡ true → Offset i
+    go true e v f h = let s = within-is 3 27 i e in record { low = omega arith; high = omega arith; not-place = λ x y. omega arith }
+    go false e true f h = let s = within-is 30 31 i f in record { low = omega arith; high = omega arith; not-place = λ x y. omega arith }
+    go false e false f h = let s = within-is 53 319 i h in record { low = omega arith; high = omega arith; not-place = λ x y. omega arith }
 
 pub extension-length : (code : ℕ) → code < 12 → length (getD extensions code []) ≡ 3
 unfolding extensions

@@ -21,7 +21,7 @@ use Rattle.laws.specs.Tests.{pick-cases, pick-all}
 use Rattle.chains.specs.Tally.{tally, tally-append}
 use Rattle.chains.specs.Chain.{in-one}
 use Rattle.chains.specs.Addresses.{absurd-bool}
-use Rattle.demands.specs.Ledger.{File, noFile, Block, closed, listing, reading, writing, Ledger, Request, Fate, denied, granted, Sought, nowhere, slot, onSought, fileNamed, vacantSlot, busy, activity, block, file, attributes, setBlock, setFile, setFree, withMark, withName, newFile, unusedSlots, addSector, taken, transferred, grown, openedToRead, openedToWrite, shutBlock, rewound, shownNext, deleted, fetched, renamed, performed, called, joined, entryOf}
+use Rattle.demands.specs.Ledger.{File, noFile, Block, closed, listing, reading, writing, Ledger, Request, Fate, denied, granted, Sought, nowhere, slot, onSought, fileNamed, vacantSlot, busy, activity, block, file, attributes, setBlock, setFile, setFree, withMark, withName, newFile, unusedSlots, addSector, taken, transferred, grown, openedToRead, openedToWrite, shutBlock, rewound, shownNext, slotPut, deleted, fetched, renamed, performed, called, joined, entryOf}
 use Rattle.met.specs.Tames.{last-code}
 use Rattle.met.specs.Relation.{opens, writes, Keeps, Agrees}
 use Rattle.met.specs.Searches.{slot-same, seek-found, vacant-hit, marked-dead}
@@ -122,6 +122,13 @@ module _ (M S : ℕ) (a : Ledger) (n : ℕ) (q : Request) where
   change-list ne (reading s j i) = tt
   change-list ne (writing s ub) = tt
 
+  change-put : q .code ≢ 13 → (o : Block) → C (slotPut M S a n q o)
+  change-put ne closed = tt
+  change-put ne (listing zero) = tt
+  change-put ne (listing (suc p)) = still ne
+  change-put ne (reading s j i) = tt
+  change-put ne (writing s ub) = tt
+
   change-delete : q .code ≡ 12 → C (deleted M S a n q)
   unfolding deleted
   change-delete c = pick-all C (legal (q .name) 0) _ _ (go (fileNamed (q .name) (a .slots)) refl) tt
@@ -164,9 +171,11 @@ module _ (M S : ℕ) (a : Ledger) (n : ℕ) (q : Request) where
       (λ n4. pick-cases C (eqb c 5) _ _ (λ h. change-rewind (not13 5 h (omega arith)) (block a n))
       (λ n5. pick-cases C (eqb c 6) _ _ (λ h. turned (not13 6 h (omega arith)) (listing 0) (λ t h. absurd (omega arith)))
       (λ n6. pick-cases C (eqb c 7) _ _ (λ h. change-list (not13 7 h (omega arith)) (block a n))
-      (λ n7. pick-cases C (eqb c 9) _ _ (λ h. pick-all C (isSector M S (q .position)) _ _ (still (not13 9 h (omega arith))) tt)
-      (λ n9. pick-cases C (eqb c 12) _ _ (λ h. change-delete (eqb-true c 12 h))
-      (λ n12. change-rename (last-code c sv (eqb-false c 0 n0) (eqb-false c 1 n1) (eqb-false c 2 n2) (eqb-false c 4 n4) (eqb-false c 5 n5) (eqb-false c 6 n6) (eqb-false c 7 n7) (eqb-false c 9 n9) (eqb-false c 12 n12))))))))))))
+      (λ n7. pick-cases C (eqb c 8) _ _ (λ h. change-put (not13 8 h (omega arith)) (block a n))
+      (λ n8. pick-cases C (eqb c 9) _ _ (λ h. pick-all C (isSector M S (q .position)) _ _ (still (not13 9 h (omega arith))) tt)
+      (λ n9. pick-cases C (eqb c 10) _ _ (λ h. pick-all C (isSector M S (q .position)) _ _ (still (not13 10 h (omega arith))) tt)
+      (λ n10. pick-cases C (eqb c 12) _ _ (λ h. change-delete (eqb-true c 12 h))
+      (λ n12. change-rename (last-code c sv (eqb-false c 0 n0) (eqb-false c 1 n1) (eqb-false c 2 n2) (eqb-false c 4 n4) (eqb-false c 5 n5) (eqb-false c 6 n6) (eqb-false c 7 n7) (eqb-false c 8 n8) (eqb-false c 9 n9) (eqb-false c 10 n10) (eqb-false c 12 n12))))))))))))))
       tt)
       tt)
       (λ sv. tt)

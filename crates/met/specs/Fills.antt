@@ -10,16 +10,17 @@ use lib.ListN.{length, getD, set}
 use lib.Seq.{getD-set-same}
 use lib.Dec.{eqb}
 use borrow.Author.Tests.{ne-eqb, eq-eqb, eqb-false, eqb-true}
+use Rattle.rules.specs.Image.{adr}
 use Rattle.rules.specs.Bytes.{part, one}
 use Rattle.rules.specs.Stores.{Store, store, stored, Put, put, puts}
-use Rattle.rules.specs.Directory.{slotsOf, live, lastOf}
+use Rattle.rules.specs.Directory.{slotsOf, live, lastOf, first}
 use Rattle.rules.specs.Transfer.{slotIn, shut, mark, closeWriting, close}
 use Rattle.rules.specs.declared.Lookup.the-variants.{At}
 use Rattle.laws.specs.Bytes.{part-is, part-same}
 use Rattle.chains.specs.Tally.{tally, tally-head, apart}
 use Rattle.laws.specs.Addresses.{Shape}
-use Rattle.chains.specs.Addresses.{adr}
-use Rattle.chains.specs.Chain.{first, Chain, setLast, pieces, pieces-same, pieces-last, tally-last, chain-same, in-one, empty}
+use Rattle.chains.specs.Chain.{Chain, setLast, pieces, pieces-same, pieces-last, tally-last, chain-same, in-one, empty}
+use Rattle.chains.specs.Data.{sector-index, sector-data, last-data, last-none}
 use Rattle.chains.specs.Directory.{spot, placed-spot}
 use Rattle.chains.specs.Snoc.{snoc-other, snoc-last, length-snoc}
 use Rattle.laws.specs.Each.{Each}
@@ -29,7 +30,7 @@ use Rattle.demands.specs.Ledger.{File, noFile, Block, closed, listing, reading,
 use Rattle.met.specs.Relation.{tb, t2, opens, writes, Holds, Reading, Writing, Listed, Keeps, Agrees, t2-same, tp-same, Turn, step}
 use Rattle.met.specs.Quiet.{turned, on-block, shut-block, alone1, alone2, nobody}
 use Rattle.met.specs.Meets.{Meets, meets-pick}
-use Rattle.met.specs.Sectors.{secs-data, secs-off, secs-once, fits, sector-data, sector-index, last-data, last-none, length-pad, pad-at}
+use Rattle.met.specs.Sectors.{secs-data, secs-off, secs-once, fits, length-pad, pad-at}
 use Rattle.met.specs.Marks.{slot-row, slot-apart, mark-step}
 
 pub one-is : (v : ℕ) → one v ≡ v ∷ []
@@ -250,11 +251,11 @@ module _ (M S : ℕ) (z : Shape M S) (img tab : List ℕ) (a : Ledger) (r : Agre
           refl,
           refl,
           shut-within,
-          mark-step M S z img tab a r s (w .slot) n (puts tab (320 * n) shutPs) closed hn (empty (g s ub e .secs) (eqb-true (length (g s ub e .secs)) 0 h)) shut-turn refl refl shut-now
+          λ plain. mark-step M S z img tab a r s (w .slot) n (puts tab (320 * n) shutPs) closed hn (empty (g s ub e .secs) (eqb-true (length (g s ub e .secs)) 0 h)) shut-turn refl refl shut-now
               (nobody M S z img tab a r n hn s ub e),
         ))
         (λ h. meets-pick M S img tab n (eqb (tb tab n 34) 0) (eqb (length ub) 0) _ _ _ _ (index-none w)
-        (λ h1. (refl, refl, shut-within, shut-step))
+        (λ h1. (refl, refl, shut-within, λ plain. shut-step))
         (λ h1.
         let ne : length ub ≢ 0 = eqb-false (length ub) 0 h1 in
         let so = w .some (omega arith) in
@@ -263,7 +264,7 @@ module _ (M S : ℕ) (z : Shape M S) (img tab : List ℕ) (a : Ledger) (r : Agre
           refl,
           refl,
           shut-within,
-          fill-step s (w .slot) (w .alive) so (padTo 252 ub) (length-pad 252 ub) n (puts tab (320 * n) shutPs) closed ub hn shut-turn e shut-now
+          λ plain. fill-step s (w .slot) (w .alive) so (padTo 252 ub) (length-pad 252 ub) n (puts tab (320 * n) shutPs) closed ub hn shut-turn e shut-now
               (λ n′ h e w. absurd (omega arith)) (λ n′ h e w. absurd (omega arith)),
         )))
       where
@@ -280,11 +281,11 @@ module _ (M S : ℕ) (z : Shape M S) (img tab : List ℕ) (a : Ledger) (r : Agre
     close-meets q closed e ne = absurd (ne refl)
     close-meets q (listing p) e ne =
         let k : Listed S (slotsOf (a .dir)) tab n p = subst (λ (b : Block). Keeps S (slotsOf (a .dir)) tab n (a .slots) b) e (r .keeps n hn) in
-        rw (k .act) (refl, refl, shut-within, shut-step)
+        rw (k .act) (refl, refl, shut-within, λ plain. shut-step)
     close-meets q (reading s j i) e ne =
         let k : Reading S (slotsOf (a .dir)) tab n (getD (a .slots) s noFile) s j i =
         subst (λ (b : Block). Keeps S (slotsOf (a .dir)) tab n (a .slots) b) e (r .keeps n hn) in
-        rw (k .act) (refl, refl, shut-within, shut-step)
+        rw (k .act) (refl, refl, shut-within, λ plain. shut-step)
     close-meets q (writing s ub) e ne =
         let k : Writing S (slotsOf (a .dir)) tab n (getD (a .slots) s noFile) s ub =
         subst (λ (b : Block). Keeps S (slotsOf (a .dir)) tab n (a .slots) b) e (r .keeps n hn) in

@@ -24,6 +24,7 @@ use Rattle.demands.specs.Demands.{Lent, due, names, Demand1}
 use Rattle.met.specs.Bounds.{touches, untouched, unnamed-stays, Tame, tame-settled}
 use Rattle.met.specs.Tames.{asked-tame}
 use Rattle.met.specs.Blanks.{formatted}
+use Rattle.met.specs.Mends.{repaired}
 
 -- ---- what is due before all else
 
@@ -96,8 +97,11 @@ demand1 = record {
   text = λ m e. refl;
   census = λ img xs ys. refl;
   format = λ img w. refl;
+  repair = λ img tab. refl;
   format-stated = λ img w. formatted img w .answers;
   format-refused = λ img w h. formatted img w .kept h;
+  repair-stated = λ img tab. repaired img tab .answers;
+  repair-refused = λ img tab h. repaired img tab .kept h;
   none = λ img tab n b h. ap (leaves img tab n) (call-wrong img tab n b (λ t k. h (record { table = t; block = k })));
   stated = λ img tab n b. call-lawful img tab n b .answers;
   exact = λ img tab n b. (refl, refl);
@@ -110,4 +114,5 @@ demand1 = record {
   unnamed = λ img tab n b i s l k h. stays img tab n b (320 * n + i) s (λ u v. not-touched _ _ (320 * n) i k h);
   looking = λ img tab n b h. (ap (stored img) (call-tame img tab n b .still h), refl);
   elsewhere = λ img tab n b p h. unnamed-stays img tab (320 * n) (functionIn tab (320 * n)) p h (onImage (call img tab n b)) (call-tame img tab n b .image);
+  raw = λ img tab n b h. refl;
 }

@@ -1,6 +1,6 @@
 -- What the history shows of files, and every answer and byte that it predicts, knows no sectors: of two ledgers that differ only in which sectors
 -- are whose the same log makes two that differ so again, and it shows and predicts the same. So two diskettes with the same files, however their
--- sectors lie, are answered alike by every service that meets demand 3.
+-- sectors lie, are answered alike by every service that meets demand 3, while no raw write is accepted.
 use mathlib.Core.Path.{_≡_, refl, sym, ap, _∙_, subst}
 use mathlib.Core.Logic.{_≢_}
 use mathlib.Core.Bool.{Bool, true, false}
@@ -14,7 +14,7 @@ use borrow.Author.Tests.{le-leb, ltb-true}
 use Rattle.rules.specs.Bytes.{pick, within, wordAt, part, over, one, two, six, zeros}
 use Rattle.rules.specs.Stores.{Put, put, puts}
 use Rattle.rules.specs.Outcome.{Effect, answer, onBlock as putsOf}
-use Rattle.rules.specs.Image.{isSector}
+use Rattle.rules.specs.Image.{isSector, adr}
 use Rattle.rules.specs.Names.{legal}
 use Rattle.rules.specs.Directory.{firstSlotOf, live, named, vacant, placeOf}
 use Rattle.rules.specs.Block.{presettable, idle, activityIn, presetIn, extensionIn}
@@ -26,25 +26,21 @@ use Rattle.laws.specs.Each.{Each, each-append, each-at}
 use Rattle.laws.specs.Small.{Small, small-nil, small-part, small-two}
 use Rattle.laws.specs.Tests.{pick-cases, within-true}
 use Rattle.laws.specs.Addresses.{Shape, Lies, data-is}
-use Rattle.chains.specs.Addresses.{adr, data-adr}
-use Rattle.chains.specs.Tally.{tally, flat, tally-head, tally-append, tally-one}
+use Rattle.chains.specs.Tally.{all-each}
 use Rattle.chains.specs.Chain.{setLast, length-pieces}
-use Rattle.chains.specs.Walk.{dataOf}
-use Rattle.demands.specs.Ledger.{Call, setting, extending, asking, blockOf, File, noFile, entryOf, Block, closed, listing, reading, writing, Ledger, file, block, fcb, Request, asks, Fate, denied, granted, Sought, nowhere, slot, later, onSought, seek, fileNamed, vacantSlot, activity, busy, setBlock, setFile, setFree, putInto, withLast, withNew, withMark, withName, newFile, unusedSlots, addSector, attributes, loaded, taken, transferred, grown, openedToRead, openedToWrite, shutBlock, rewound, directoryOpened, shownNext, fetched, deleted, renamed, performed, called, ended, edits, fate, reply, gives, after, secsOf}
+use Rattle.chains.specs.Data.{InData, sector-data}
+use Rattle.demands.specs.Ledger.{Call, setting, extending, asking, blockOf, File, noFile, entryOf, Block, closed, listing, reading, writing, Ledger, file, block, fcb, Request, asks, Fate, denied, granted, Sought, nowhere, slot, later, onSought, seek, fileNamed, vacantSlot, activity, busy, setBlock, setFile, setFree, putInto, withLast, withNew, withMark, withName, newFile, unusedSlots, addSector, attributes, loaded, taken, transferred, grown, openedToRead, openedToWrite, shutBlock, rewound, directoryOpened, shownNext, slotPut, fetched, deleted, renamed, performed, called, ended, edits, fate, reply, gives, after}
 use Rattle.demands.specs.Diskette.{fcbsFrom, ledgerOf}
 use Rattle.demands.specs.Service.{Service, Machine, Entry, answers, gave, next as after-call, entry, run, log}
-use Rattle.demands.specs.History.{noted, then, history, scenes, Told, pending, asShown, shownFrom, shown, content, filesOn}
-use Rattle.demands.specs.Demands.{Start, lastTrackOf, perTrackOf, begun, Demand3}
+use Rattle.demands.specs.History.{noted, then, history, scenes, Told, Plain, pending, asShown, shownFrom, shown, content, filesOn}
+use Rattle.demands.specs.Demands.{Start, lastTrackOf, perTrackOf, begun, past, Demand3}
 use Rattle.met.specs.Relation.{Agrees}
+use Rattle.met.specs.Sectors.{free-data, secs-data}
 use Rattle.met.specs.Unused.{length-unused}
 use Rattle.met.specs.Calls.{extension-length}
 use Rattle.met.specs.Runs.{start-shape, start-fine}
 
 -- ---- ledgers alike
-
--- sector k is one for data
-abbrev pub InData : ℕ → ℕ → ℕ → Type 0
-InData M S k = (S ≤ k) × (k < (M + 1) * S)
 
 -- byte i of a block is none that calls and presets read: these are 0-14, 25-27, 30-31, 53-63
 pub record Unread (i : ℕ) : Type 0 where
@@ -256,7 +252,7 @@ module _ (M S : ℕ) where
   -- a position that is an address
   module _ (z : Shape M S) where
     lies : (k : ℕ) → InData M S k → Lies 1 M 1 S (adr S k)
-    lies k h = data-is M S (adr S k) (data-adr M S z k (omega (arith, z, h .0)) (h .1) (h .0))
+    lies k h = data-is M S (adr S k) (sector-data M S z k h)
 
     piece-position : (k k′ : ℕ) → InData M S k → InData M S k′ → Pieces M S 30 (two (adr S k)) (two (adr S k′))
     unfolding two
@@ -740,6 +736,13 @@ module _ (M S : ℕ) (z : Shape M S) (a a′ : Ledger) (r : Alike M S a a′) (n
   directory-alike =
       accepted refl (alike-block M S a a′ r n _ _ refl) (next 2 (piece-one M S 2 16 (omega arith)) (next 47 (piece-behind M S 47 _ _ (omega arith) refl) none))
 
+  put-alike : (o : Block) → L (slotPut M S a n q o) (slotPut M S a′ n q′ o)
+  put-alike closed = refused refl
+  put-alike (listing zero) = refused refl
+  put-alike (listing (suc p)) = accepted refl r none
+  put-alike (reading s j i) = refused refl
+  put-alike (writing s ub) = refused refl
+
   fetch-alike : isSector M S (q .position) ≡ isSector M S p′ → L (fetched M S a n q) (fetched M S a′ n q′)
   unfolding fetched
   fetch-alike j =
@@ -797,8 +800,10 @@ module _ (M S : ℕ) (z : Shape M S) (a a′ : Ledger) (r : Alike M S a a′) (n
       (like-pick M S (eqb c 5) _ _ _ _ _ refl (λ _. subst (λ (o : Block). L (rewound M S a n q (block a n)) (rewound M S a′ n q′ o)) e (rewind-alike (block a n)))
       (like-pick M S (eqb c 6) _ _ _ _ _ refl (λ _. directory-alike)
       (like-pick M S (eqb c 7) _ _ _ _ _ refl (λ _. subst (λ (o : Block). L (shownNext M S a n q (block a n)) (shownNext M S a′ n q′ o)) e (list-alike (block a n)))
+      (like-pick M S (eqb c 8) _ _ _ _ _ refl (λ _. subst (λ (o : Block). L (slotPut M S a n q (block a n)) (slotPut M S a′ n q′ o)) e (put-alike (block a n)))
       (like-pick M S (eqb c 9) _ _ _ _ _ refl (λ _. fetch-alike j)
-      (like-pick M S (eqb c 12) _ _ _ _ _ refl (λ _. delete-alike) (rename-alike lr))))))))))
+      (like-pick M S (eqb c 10) _ _ _ _ _ refl (λ _. like-pick M S (isSector M S (q .position)) _ _ _ _ _ j (λ _. accepted refl r none) (refused refl))
+      (like-pick M S (eqb c 12) _ _ _ _ _ refl (λ _. delete-alike) (rename-alike lr))))))))))))
       (refused (ap (λ (o : Block). misfit c (activity o)) e)))
       (refused refl))
       (refused refl)
@@ -935,14 +940,10 @@ record Sited (M S : ℕ) (a : Ledger) : Type 0 where
   long : (s : ℕ) → s < length (a .slots) → Long (file a s) (file a s)
   size : (s : ℕ) → s < length (a .slots) → length ((file a s) .body) ≡ length ((file a s) .secs)
 
-each-tally : (P : ℕ → Type 0) (xs : List ℕ) → ((x : ℕ) → 1 ≤ tally x xs → P x) → Each P xs
-each-tally P [] h = tt
-each-tally P (x ∷ xs) h = (h x (tally-head x xs), each-tally P xs (λ y t. h y (omega arith)))
-
-sited : (M S : ℕ) (img tab : List ℕ) (a : Ledger) → Agrees M S img tab a → Sited M S a
-sited M S img tab a r = record {
-  frees = each-tally (InData M S) (a .free) (λ x t. in-data x (omega (arith, t, all x)));
-  secs = λ s h. each-tally (InData M S) ((file a s) .secs) (λ x t. in-data x (omega (arith, t, all x, tally-one secsOf x (a .slots) s noFile h)));
+sited : (M S : ℕ) → Shape M S → (img tab : List ℕ) (a : Ledger) → Agrees M S img tab a → Sited M S a
+sited M S z img tab a r = record {
+  frees = all-each (InData M S) (a .free) (free-data M S z img tab a r);
+  secs = λ s h. all-each (InData M S) ((file a s) .secs) (secs-data M S z img tab a r s (omega (arith, r .ns)));
   long = λ s h.
       let g = r .holds s (omega (arith, r .ns)) in
       record {
@@ -954,15 +955,6 @@ sited M S img tab a r = record {
       };
   size = λ s h. ap length (r .holds s (omega (arith, r .ns)) .body) ∙ length-pieces 4 252 img ((file a s) .secs);
 }
-  where
-    everything : List ℕ
-    everything = a .free ++ (dataOf S (a .dir) ++ flat secsOf (a .slots))
-
-    all : (x : ℕ) → tally x (a .free) + tally x (flat secsOf (a .slots)) ≤ tally x everything
-    all x = omega (arith, tally-append x (a .free) (dataOf S (a .dir) ++ flat secsOf (a .slots)), tally-append x (dataOf S (a .dir)) (flat secsOf (a .slots)))
-
-    in-data : (x : ℕ) → 1 ≤ tally x everything → InData M S x
-    in-data x t = (r .once .low x t, r .once .high x t)
 
 -- of the same shape, as many free sectors, the same slots, the same table of bytes
 pub record Twins (x x′ : Machine) : Type 0 where
@@ -1018,22 +1010,22 @@ module _ (x x′ : Machine) (s : Start x) (s′ : Start x′) (t : Twins x x′)
   pub starts-alike : Alike M S (begun x) (begun x′)
   unfolding ledgerOf
   starts-alike =
-      let g′ = sited (lastTrackOf x′) (perTrackOf x′) (x′ .img) (x′ .tab) (begun x′) (start-fine x′ s′ .agrees) in
-      sited-alike M S (begun x) (begun x′) (sited M S (x .img) (x .tab) (begun x) (start-fine x s .agrees))
+      let g′ = sited (lastTrackOf x′) (perTrackOf x′) (start-shape x′ s′) (x′ .img) (x′ .tab) (begun x′) (start-fine x′ s′ .agrees) in
+      sited-alike M S (begun x) (begun x′) (sited M S (start-shape x s) (x .img) (x .tab) (begun x) (start-fine x s .agrees))
       (subst (λ (m : ℕ). Sited m S (begun x′)) (sym (t .tracks)) (subst (λ (p : ℕ). Sited (lastTrackOf x′) p (begun x′)) (sym (t .sectors)) g′)) (t .free) (t .count) (t .files) refl
       (ap (λ (m : List ℕ). fcbsFrom m 0 8) (t .table)) (λ n. small-forms (x .tab) (t .bytes) 0 8 n)
 
-  -- any service that meets demand 3 answers every list of calls alike on both, with the same bytes, and leaves the same files
-  module _ (σ : Service) (d : Demand3 σ) (cs : List Call) (h : Each Byte cs) where
+  -- any service that meets demand 3 answers every list of calls that is plain on both alike, with the same bytes, and leaves the same files
+  module _ (σ : Service) (d : Demand3 σ) (cs : List Call) (h : Each Byte cs) (p : Plain (past σ x cs)) (p′ : Plain (past σ x′ cs)) where
     pub twins-log : log σ x cs ≡ log σ x′ cs
     twins-log =
-        log-only M S (start-shape x s) σ cs h x x′ (begun x) (begun x′) starts-alike (d x s cs .answered)
+        log-only M S (start-shape x s) σ cs h x x′ (begun x) (begun x′) starts-alike (d x s cs p .answered)
         (subst (λ (m : ℕ). Told m S (scenes m S (begun x′) (log σ x′ cs))) (sym (t .tracks))
-        (subst (λ (p : ℕ). Told (lastTrackOf x′) p (scenes (lastTrackOf x′) p (begun x′) (log σ x′ cs))) (sym (t .sectors)) (d x′ s′ cs .answered)))
+        (subst (λ (p : ℕ). Told (lastTrackOf x′) p (scenes (lastTrackOf x′) p (begun x′) (log σ x′ cs))) (sym (t .sectors)) (d x′ s′ cs p′ .answered)))
 
     pub twins-files : filesOn M S (run σ x cs .img) (run σ x cs .tab) ≡ filesOn (lastTrackOf x′) (perTrackOf x′) (run σ x′ cs .img) (run σ x′ cs .tab)
     twins-files =
-        d x s cs .files
+        d x s cs p .files
         ∙ shown-only M S (start-shape x s) (log σ x cs) (bytes-log σ cs x h) (begun x) (begun x′) starts-alike
         ∙ (λ i. shown (history (t .tracks i) (t .sectors i) (begun x′) (twins-log i)))
-        ∙ sym (d x′ s′ cs .files)
+        ∙ sym (d x′ s′ cs p′ .files)

@@ -1,18 +1,17 @@
 -- The bytes of the blocks: the table is what the ledger's fcbs say, and stays so where a call puts bytes into its block.
-use mathlib.Core.Path.{_≡_, refl, sym, ap, ap₂, _∙_, subst}
+use mathlib.Core.Path.{_≡_, refl, sym, ap, ap₂, _∙_}
 use mathlib.Core.List.{List, [], _∷_, _++_}
-use Prim.Native.Nat.{ℕ, zero, suc, _+_, _-_, _*_, _≤_, _<_}
+use Prim.Native.Nat.{ℕ, zero, suc, _+_, _*_, _≤_, _<_}
 use native.Mathlib.Omega.{arith}
-use native.Mathlib.Decide.{ℕ-discrete, decLt}
+use native.Mathlib.Decide.{ℕ-discrete}
 use lib.ListN.{length, getD, set, length-set}
 use lib.Seq.{getD-set-same, getD-set-other}
-use Rattle.rules.specs.Bytes.{wordAt, part, over}
+use Rattle.rules.specs.Bytes.{wordAt, part, over, flat}
 use Rattle.rules.specs.Stores.{Put, put, puts}
 use Rattle.rules.specs.Block.{presetIn, extensionIn}
-use Rattle.laws.specs.Bytes.{part-join, word-same, part-at, part-is, part-same, part-all, length-part, length-over, over-in, over-other}
+use Rattle.laws.specs.Bytes.{part-join, word-same, part-at, part-is, part-same, part-all, length-part, length-over, over-in, over-other, over-by}
 use Rattle.laws.specs.Each.{Each}
 use Rattle.laws.specs.Stores.{Within, puts-other}
-use Rattle.chains.specs.Tally.{flat}
 use Rattle.demands.specs.Ledger.{request}
 use Rattle.demands.specs.Diskette.{fcbsFrom}
 use Rattle.met.specs.Searches.{part-part}
@@ -21,21 +20,10 @@ use Rattle.met.specs.Searches.{part-part}
 
 part-over : (m : List ℕ) (f n i : ℕ) (vs : List ℕ) → f + n ≤ length m → part (over m (f + i) vs) f n ≡ over (part m f n) i vs
 part-over m f n i vs h =
-    part-is (over m (f + i) vs) f n (over (part m f n) i vs) (length-over (part m f n) i vs ∙ length-part m f n) (λ j b. go j b (decLt j i) (decLt j (i + length vs)))
-  where
-    off : (j : ℕ) → j < n → (i ≤ j → j < i + length vs → ⊥) → getD (over m (f + i) vs) (f + j) 0 ≡ getD (over (part m f n) i vs) j 0
-    off j b o =
-        over-other m (f + i) vs (f + j) (λ x y. o (omega arith) (omega arith)) ∙ sym (over-other (part m f n) i vs j o ∙ part-at m f n j b)
-
-    go : (j : ℕ) → j < n → Dec (j < i) → Dec (j < i + length vs) → getD (over m (f + i) vs) (f + j) 0 ≡ getD (over (part m f n) i vs) j 0
-    go j b (yes u) v = off j b (λ x y. omega arith)
-    go j b (no u) (no v) = off j b (λ x y. omega arith)
-    go j b (no u) (yes v) =
-        let c = j - i in
-        let e : f + i + c ≡ f + j = omega arith in
-        let e′ : i + c ≡ j = omega arith in
-        subst (λ (p : ℕ). getD (over m (f + i) vs) p 0 ≡ getD vs c 0) e (over-in m (f + i) vs c (omega arith) (omega arith))
-        ∙ sym (subst (λ (p : ℕ). getD (over (part m f n) i vs) p 0 ≡ getD vs c 0) e′ (over-in (part m f n) i vs c (omega arith) (omega (arith, length-part m f n))))
+    part-is (over m (f + i) vs) f n (over (part m f n) i vs) (length-over (part m f n) i vs ∙ length-part m f n)
+    (λ j b. over-by (λ (x : ℕ). x ≡ getD (over (part m f n) i vs) j 0) m (f + i) vs (f + j)
+    (λ o. sym (over-other (part m f n) i vs j (λ x y. o (omega arith) (omega arith) (omega arith)) ∙ part-at m f n j b))
+    (λ c d e l. sym (over-in (part m f n) i vs c d (omega (arith, length-part m f n))) ∙ ap (λ (p : ℕ). getD (over (part m f n) i vs) p 0) (omega arith)))
 
 pub puts-part : (ps : List Put) (tab : List ℕ) (f : ℕ) → f + 320 ≤ length tab → part (puts tab f ps) f 320 ≡ puts (part tab f 320) 0 ps
 puts-part [] tab f h = refl

@@ -21,10 +21,9 @@ use Rattle.chains.specs.Chain.{contents}
 use Rattle.demands.specs.Ledger.{Call, setting, extending, asking, File, noFile, Block, closed, reading, Ledger, Request, asks, Fate, denied, granted, reply, gives, activity, block, file, setBlock, loaded, transferred, rewound, performed, called}
 use Rattle.met.specs.Relation.{opens, Reading, Keeps}
 use Rattle.demands.specs.Service.{flex, Machine, answers, gave, next, entry, log}
-use Rattle.demands.specs.History.{then, scenes, calls, concat, had, Only, readTo, Reads}
+use Rattle.demands.specs.History.{then, scenes, calls, concat, had, Plain, Only, readTo, Reads}
 use Rattle.met.specs.Meets.{ledgerBy}
-use Rattle.met.specs.Runs.{Fine, Likewise, asks-is, asked, likewise-set, likewise-extend, likewise-refused, likewise-asked, step}
-use Rattle.met.specs.Rests.{sceneOf}
+use Rattle.met.specs.Runs.{sceneOf, Fine, Likewise, asks-is, asked, likewise-set, likewise-extend, likewise-refused, likewise-asked, step}
 use Rattle.met.specs.Sent.{called-of, called-zero, fits-one, Untouched, untouched, other-call}
 
 -- ---- the bytes of sectors, one after another
@@ -230,9 +229,9 @@ module _ (M S : ℕ) (z : Shape M S) where
 
   -- READING: whatever else is called, the bytes come in order, and then 8; after a rewind from the first on
   pub reads : (cs : List Call) (x : Machine) (a : Ledger) → Fine M S x a → (n s p : ℕ) (l : List ℕ) → n < 8 → At a n s p l
-      → Only n (0 ∷ 5 ∷ []) (scenes M S a (log flex x cs)) → Reads n p l (scenes M S a (log flex x cs))
+      → Plain (scenes M S a (log flex x cs)) → Only n (0 ∷ 5 ∷ []) (scenes M S a (log flex x cs)) → Reads n p l (scenes M S a (log flex x cs))
   unfolding log scenes entry
-  reads [] x a g n s p l hn t op = tt
-  reads (c ∷ cs) x a g n s p l hn t op =
+  reads [] x a g n s p l hn t pl op = tt
+  reads (c ∷ cs) x a g n s p l hn t pl op =
       let w = read-one x a g n s p l hn t c (op .0, tt) in
-      (w .1, w .2, reads cs (next flex x c) (then M S a (entry flex x c)) (step M S z x a g c .fine) n s (readTo n p l (sceneOf x a c)) l hn (w .0) (op .1))
+      (w .1, w .2, reads cs (next flex x c) (then M S a (entry flex x c)) (step M S z x a g c .fine (pl .0)) n s (readTo n p l (sceneOf x a c)) l hn (w .0) (pl .1) (op .1))

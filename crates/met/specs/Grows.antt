@@ -9,10 +9,11 @@ use native.Mathlib.Decide.{ℕ-discrete, decLt}
 use lib.ListN.{length, getD, set, length-append, length-set, List·getD-append}
 use lib.Seq.{getD-set-same, getD-set-other, getD-append-add}
 use borrow.Author.Tests.{ne-eqb, lt-ltb}
-use Rattle.rules.specs.Bytes.{wordAt, part, two, six, zeros}
+use Rattle.rules.specs.Image.{adr}
+use Rattle.rules.specs.Bytes.{wordAt, part, two, six, zeros, flat}
 use Rattle.rules.specs.Stores.{Store, store, stored}
 use Rattle.rules.specs.Names.{legal}
-use Rattle.rules.specs.Directory.{mostOfDirectory, firstSlotOf, slotsAt, slotsOf, live, vacant, lastOf}
+use Rattle.rules.specs.Directory.{mostOfDirectory, firstSlotOf, slotsAt, slotsOf, live, vacant, lastOf, first}
 use Rattle.rules.specs.Outcome.{done, onNone, orElse}
 use Rattle.rules.specs.Files.{opened, newEntry, growStores, grow, openWrite}
 use Rattle.laws.specs.Bytes.{word-put, part-is, length-zeros, zeros-at, length-two}
@@ -20,11 +21,12 @@ use Rattle.laws.specs.Small.{small-two, small-six}
 use Rattle.laws.specs.Stores.{stored-off, stored-at, length-stored}
 use Rattle.laws.specs.Addresses.{Shape}
 use Rattle.laws.specs.Slots.{length-slots}
-use Rattle.chains.specs.Tally.{tally, tally-head, tally-append, flat, flat-append, apart}
+use Rattle.chains.specs.Tally.{tally, tally-head, tally-append, flat-append, apart}
 use Rattle.chains.specs.Once.{once-eq}
 use Rattle.chains.specs.Snoc.{length-snoc, snoc-last}
-use Rattle.chains.specs.Addresses.{adr, adr-zero, absurd-bool}
-use Rattle.chains.specs.Chain.{first, Seg, seg-hang, tally-last, pieces, pieces-same, pieces-append}
+use Rattle.chains.specs.Addresses.{adr-zero, absurd-bool}
+use Rattle.chains.specs.Chain.{Seg, seg-hang, tally-last, pieces, pieces-same, pieces-append}
+use Rattle.chains.specs.Data.{sector-small}
 use Rattle.chains.specs.Walk.{dataOf, data-snoc}
 use Rattle.chains.specs.Frame.{Address, of-record, of-link}
 use Rattle.chains.specs.Directory.{listing-few, listing-more, directory-is, slot-at, slots-snoc, spot}
@@ -34,7 +36,7 @@ use Rattle.met.specs.Unused.{length-unused, unused-at, unused-none, unus
 use Rattle.met.specs.Quiet.{writes-opens}
 use Rattle.met.specs.Meets.{Meets, meets-unless}
 use Rattle.met.specs.Searches.{legal-part, find-is, vacancy-is, lookedUp, seek-found, vacant-hit}
-use Rattle.met.specs.Sectors.{secs-data, secs-off, secs-once, sector-small, fits}
+use Rattle.met.specs.Sectors.{secs-data, secs-off, secs-once, fits}
 use Rattle.met.specs.Frees.{k-data, k-off, k-in, k-new, fr-data, fr-off, count-is, first-is, first-data, first-index, left, off-is, free-now, spare-now}
 use Rattle.met.specs.Opens.{legal-live, tab′, open-within, open-turn, nm, date, ne, l24, holds-made, keeps-made, open-write, made-entry}
 
@@ -364,7 +366,7 @@ module _ (M S : ℕ) (z : Shape M S) (img tab : List ℕ) (a : Ledger) (r : Agre
           refl,
           unfold newEntry in ap (opened S 2 o) (made-entry M S z img tab a r n hn dr o),
           unfold opened newEntry in open-within M S z img tab a r n hn 2 o entry l24′,
-          unfold opened newEntry in grow-step,
+          unfold opened newEntry in λ plain. grow-step,
         )
 
   none-free : (b : ℕ) → a .free ≡ [] → Meets M S img tab n (grow img tab M S (320 * n)) (denied 7)
@@ -401,5 +403,5 @@ module _ (M S : ℕ) (z : Shape M S) (img tab : List ℕ) (a : Ledger) (r : Agre
             refl,
             ap₂ (opened S 2) (sym (r .holds s hs .at)) (made-entry M S z img tab a r n hn dr ((getD (a .slots) s noFile) .at)),
             open-within M S z img tab a r n hn 2 (getD (slotsOf (a .dir)) s 0) entry l24′,
-            open-write M S z img tab a r n hn dr s hs (vacant-hit ((getD (a .slots) s noFile) .name) (q .hit)) v,
+            λ plain. open-write M S z img tab a r n hn dr s hs (vacant-hit ((getD (a .slots) s noFile) .name) (q .hit)) v,
           )

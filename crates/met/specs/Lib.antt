@@ -1,7 +1,8 @@
--- That our service meets the three demands. Demand 1: what a call may touch, on any bytes; blank diskettes
+-- That our service meets the three demands. Demand 1: what a call may touch, on any bytes; blank diskettes; repair
 pub mod Bounds
 pub mod Tames
 pub mod Blanks
+pub mod Mends
 pub mod First
 -- image and table agree with a ledger, and are then what it says
 pub mod Relation
@@ -23,6 +24,7 @@ pub mod Removes
 pub mod Lists
 pub mod Calls
 -- what calls leave; the census and the ledger; lists of calls
+pub mod Joins
 pub mod Tidy
 pub mod Changes
 pub mod Survey

@@ -1,27 +1,31 @@
--- Functions 6, 7 and 9: open directory, next slot, read sector.
+-- Functions 6 to 10: open directory, next slot, put slot, read sector, write sector.
 use mathlib.Core.Path.{_≡_, refl, sym, ap, ap₂, _∙_, subst}
 use mathlib.Core.Bool.{Bool, true, false}
 use mathlib.Core.List.{List, [], _∷_}
-use Prim.Native.Nat.{ℕ, zero, suc, _+_, _*_, _%_, _<_}
+use Prim.Native.Nat.{ℕ, zero, suc, _+_, _*_, _/_, _%_, _<_}
 use native.Mathlib.Omega.{arith}
 use native.Mathlib.Decide.{decLt}
 use lib.ListN.{length, getD}
 use lib.Dec.{ltb}
 use borrow.Author.Tests.{lt-ltb, le-ltb}
 use Rattle.rules.specs.Bytes.{pick, wordAt, part, one, zeros, same, one, two}
-use Rattle.rules.specs.Stores.{Put, put, puts}
+use Rattle.rules.specs.Stores.{store, Put, put, puts}
 use Rattle.rules.specs.Image.{index, isSector}
 use Rattle.rules.specs.Directory.{slotsOf, placeOf}
-use Rattle.rules.specs.Outcome.{onSlot}
-use Rattle.rules.specs.Files.{openDirectory, shown, nextSlot, readSector}
-use Rattle.rules.specs.declared.Lookup.the-variants.{At, Missing}
+use Rattle.rules.specs.Outcome.{onSlot, done}
+use Rattle.rules.specs.Block.{functionIn, placeIn}
+use Rattle.rules.specs.Transfer.{slotIn}
+use Rattle.rules.specs.Files.{openDirectory, shown, nextSlot, putSlot, readSector, writeSector}
+use Rattle.rules.specs.declared.Lookup.{Lookup}
+use Rattle.rules.specs.declared.Lookup.the-variants.{At, Missing, Broken}
 use Rattle.laws.specs.Bytes.{part-is, length-part, length-zeros, same-refl, same-eq}
 use Rattle.laws.specs.Addresses.{Shape}
 use Rattle.chains.specs.Chain.{first-getD}
-use Rattle.laws.specs.Slots.{length-slots}
+use Rattle.laws.specs.Slots.{length-slots, slot-is, placed-is}
+use Rattle.chains.specs.Addresses.{absurd-bool}
 use Rattle.chains.specs.Directory.{directory-is, slot-at, spot, spot-sector, placed-spot, behind}
 use Rattle.laws.specs.Stores.{puts-off, puts-at}
-use Rattle.demands.specs.Ledger.{Block, closed, listing, Ledger, Request, Fate, denied, granted, setBlock, entryOf, directoryOpened, shownNext, fetched, request, file}
+use Rattle.demands.specs.Ledger.{writesRaw, Block, closed, listing, Ledger, Request, Fate, denied, granted, setBlock, entryOf, directoryOpened, shownNext, slotPut, fetched, sectorPut, request, file}
 use Rattle.met.specs.Relation.{tb, opens, Listed, Keeps, Agrees, tp-same}
 use Rattle.met.specs.Quiet.{turned, shut-block, idle-quiet}
 use Rattle.met.specs.Meets.{Meets, meets-unless}
@@ -41,7 +45,7 @@ module _ (M S : ℕ) (z : Shape M S) (img tab : List ℕ) (a : Ledger) (r : Agre
     refl,
     refl,
     omega (arith, length-zeros 3),
-    shut-block M S z img tab a r n hn (puts tab (320 * n) ps) (listing 0) (turned tab n ps (omega (arith, length-zeros 3))) refl refl
+    λ plain. shut-block M S z img tab a r n hn (puts tab (320 * n) ps) (listing 0) (turned tab n ps (omega (arith, length-zeros 3))) refl refl
         (record {
           act = puts-at ps tab (320 * n) 0 0 (320 * n + 2) (omega arith) (omega arith) (omega arith) (in-table 2 (omega arith)) (omega arith);
           shown = omega arith;
@@ -67,7 +71,7 @@ module _ (M S : ℕ) (z : Shape M S) (img tab : List ℕ) (a : Ledger) (r : Agre
       refl,
       ap₂ (λ (x : ℕ) (y : List ℕ). put 47 (placeOf S x) ∷ put 4 y ∷ []) (sym (r .holds p hp .at)) (entry-is M S z img tab a r p hp),
       omega (arith, length-part img o 24),
-      shut-block M S z img tab a r n hn (puts tab (320 * n) qs) (listing (suc p)) (turned tab n qs (omega (arith, length-part img o 24))) refl refl
+      λ plain. shut-block M S z img tab a r n hn (puts tab (320 * n) qs) (listing (suc p)) (turned tab n qs (omega (arith, length-part img o 24))) refl refl
           (record {
             act = puts-off qs tab (320 * n) (320 * n + 2) (omega (arith, length-part img o 24)) ∙ act;
             shown = omega arith;
@@ -132,6 +136,38 @@ module _ (M S : ℕ) (z : Shape M S) (img tab : List ℕ) (a : Ledger) (r : Agre
         refl,
         ap (λ (m : List ℕ). put 64 (part m (256 * index S (wordAt tab (320 * n + 30))) 256) ∷ []) (image-is M S z img tab a r),
         omega (arith, lv),
-        idle-quiet M S z img tab a r n hn (puts tab (320 * n) ts) (turned tab n ts (omega (arith, lv))) oz (puts-off ts tab (320 * n) (320 * n + 2) (omega (arith, lv)))
+        λ plain. idle-quiet M S z img tab a r n hn (puts tab (320 * n) ts) (turned tab n ts (omega (arith, lv))) oz (puts-off ts tab (320 * n) (320 * n + 2) (omega (arith, lv)))
             (tp-same tab (puts tab (320 * n) ts) n (λ i h. puts-off ts tab (320 * n) (320 * n + i) (omega (arith, lv, h)))),
       ))
+
+  -- ---- 8 and 10: raw writing, which leaves what agrees with no ledger
+  module _ (raw : writesRaw (functionIn tab (320 * n)) ≡ true) where
+    pub put-slot-meets : (q : Request) (p : ℕ) → getD (a .blocks) n closed ≡ listing p
+        → Meets M S img tab n (putSlot img tab M S (320 * n)) (slotPut M S a n q (listing p))
+    unfolding putSlot placeOf two one zeros
+    put-slot-meets q zero e = go (slotIn img tab M S (320 * n)) refl
+      where
+        k : Listed S (slotsOf (a .dir)) tab n 0
+        k = subst (λ (b : Block). Keeps S (slotsOf (a .dir)) tab n (a .slots) b) e (r .keeps n hn)
+
+        -- place 0,0,0 is no slot's
+        nobody : (o : ℕ) → slotIn img tab M S (320 * n) ≡ At o → ⊥
+        nobody o h =
+            let p = placed-is img M S (placeIn tab (320 * n)) o h in
+            let d : o % 256 ≡ 0 = ap (λ (l : List ℕ). getD l 2 0) (p .1 ∙ k .place) in
+            omega (arith, d, slot-is img M S (z .sectors) o (p .0 .one-of) .low)
+
+        go : (l : Lookup) → slotIn img tab M S (320 * n) ≡ l
+            → Meets M S img tab n (onSlot l 5 5 (λ slot. done 0 (store (slot / 256) (slot % 256) (part tab (320 * n + 4) 24) ∷ []) [])) (denied 5)
+        go (At o) h = absurd (nobody o h)
+        go Missing h = (refl, omega arith)
+        go Broken h = (refl, omega arith)
+    put-slot-meets q (suc s) e =
+        let k : Listed S (slotsOf (a .dir)) tab n (suc s) = subst (λ (b : Block). Keeps S (slotsOf (a .dir)) tab n (a .slots) b) e (r .keeps n hn) in
+        let w = spot M S (a .dir) (r .listing) s (omega (arith, k .shown)) in
+        rw (k .place, placed-spot M S z (a .dir) (r .listing) img (r .dir) s (getD (slotsOf (a .dir)) s 0) w) (refl, refl, tt, λ plain. absurd (absurd-bool raw plain))
+
+    pub write-sector-meets : (q : Request) → q .position ≡ wordAt tab (320 * n + 30) → Meets M S img tab n (writeSector img tab M S (320 * n)) (sectorPut M S a n q)
+    unfolding writeSector
+    write-sector-meets q e =
+        meets-unless M S img tab n _ (isSector M S (q .position)) 10 _ _ (ap (isSector M S) (sym e)) (omega arith) (λ h. (refl, refl, tt, λ plain. absurd (absurd-bool raw plain)))

@@ -9,6 +9,7 @@ use lib.ListN.{length, getD, drop, length-append, List·getD-append}
 use lib.Seq.{getD-set-same, getD-append-add}
 use lib.Dec.{eqb, leb}
 use borrow.Author.Tests.{ne-eqb, lt-leb}
+use Rattle.rules.specs.Image.{adr}
 use Rattle.laws.specs.Tests.{both, either, within-is}
 use Rattle.rules.specs.Bytes.{pick, within, wordAt, part, one, two, zeros}
 use Rattle.rules.specs.Stores.{store, stored, Put, put, puts}
@@ -20,7 +21,7 @@ use Rattle.rules.specs.Files.{readProtected, opened, openRead}
 use Rattle.laws.specs.Bytes.{word-put, word-same, part-at, part-is, length-part, length-zeros, zeros-at}
 use Rattle.chains.specs.Tally.{tally}
 use Rattle.laws.specs.Addresses.{Shape}
-use Rattle.chains.specs.Addresses.{adr, adr-zero, absurd-bool}
+use Rattle.chains.specs.Addresses.{adr-zero, absurd-bool}
 use Rattle.chains.specs.Chain.{first-getD}
 use Rattle.laws.specs.Each.{Each}
 use Rattle.laws.specs.Stores.{Within, Piece, begins, bytesOf, none, inBlock, Off, puts-off, puts-at}
@@ -161,7 +162,7 @@ module _ (M S : ℕ) (z : Shape M S) (img tab : List ℕ) (a : Ledger) (r : Agre
             refl,
             ap₂ (opened S 1) (sym (r .holds s hs .at)) (entry-is M S z img tab a r s hs),
             open-within M S z img tab a r n hn 1 (getD (slotsOf (a .dir)) s 0) (part img (getD (slotsOf (a .dir)) s 0) 24) (length-part img (getD (slotsOf (a .dir)) s 0) 24),
-            open-read s hs (named-hit ((getD (a .slots) s noFile) .name) (part tab (320 * n + 4) 11) (q .hit) .alive) h2,
+            λ plain. open-read s hs (named-hit ((getD (a .slots) s noFile) .name) (part tab (320 * n + 4) 11) (q .hit) .alive) h2,
           )))
 
   -- ---- write

@@ -8,34 +8,25 @@ use native.Mathlib.Omega.{arith}
 use native.Mathlib.Decide.{decLt}
 use lib.ListN.{length, getD, length-append}
 use lib.Seq.{ext-getD}
-use Rattle.rules.specs.Bytes.{wordAt, part, over, two, six}
+use Rattle.rules.specs.Image.{adr}
+use Rattle.rules.specs.Bytes.{wordAt, part, two, flat}
 use Rattle.rules.specs.Stores.{Store, store, stored}
-use Rattle.rules.specs.Directory.{live, slotsOf, lastOf}
-use Rattle.laws.specs.Bytes.{part-at, part-join, length-part, length-two, length-over, over-in, over-other}
-use Rattle.laws.specs.Each.{Each, each-append}
-use Rattle.laws.specs.Stores.{Piece, piece, begins, bytesOf, laid, Off, inImage, stored-laid, in-image-append, length-stored}
+use Rattle.rules.specs.Directory.{live, slotsOf, first, chainRecord}
+use Rattle.laws.specs.Bytes.{part-two, part-at, part-join, length-part, length-two}
+use Rattle.laws.specs.Stores.{piece, Off, True, laid-true, Stores, stores-append, stores-left, stores-right, inImage, stored-laid, length-stored}
 use Rattle.laws.specs.Addresses.{Shape}
 use Rattle.laws.specs.Slots.{length-slots}
-use Rattle.chains.specs.Tally.{tally, tally-head, tally-append, flat, eq1-ne}
-use Rattle.chains.specs.Addresses.{adr}
-use Rattle.chains.specs.Chain.{first, Seg, pieces, contents, pieces-at, seg-at, tally-getD, seat}
-use Rattle.chains.specs.Walk.{dataOf, tally-data, AllData}
+use Rattle.chains.specs.Tally.{tally, tally-head, tally-append, eq1-ne}
+use Rattle.chains.specs.Chain.{Seg, chain-record, pieces, contents, pieces-at, seg-at, tally-getD, seat}
+use Rattle.chains.specs.Data.{AllData}
+use Rattle.chains.specs.Walk.{dataOf, tally-data}
 use Rattle.chains.specs.Directory.{slot-at}
 use Rattle.chains.specs.Frame.{Address, of-record, of-link}
-use Rattle.demands.specs.Ledger.{File, noFile, Ledger, secsOf, entryOf, joined, chainStores, fileStores, freeRecord, imageOf}
+use Rattle.demands.specs.Ledger.{File, noFile, Ledger, secsOf, entryOf, joined, chainStores, fileStores, imageOf}
 use Rattle.met.specs.Relation.{Agrees}
 use Rattle.met.specs.Sectors.{free-data, secs-data}
 
 -- ---- parts
-
--- two bytes that are the number v
-pub part-two : (m : List ℕ) (p v : ℕ) → wordAt m p ≡ v → getD m p 0 < 256 → getD m (p + 1) 0 < 256 → part m p 2 ≡ two v
-unfolding part two wordAt
-part-two m p v e a b = ap₂ (λ (x y : ℕ). x ∷ y ∷ []) (omega arith) (omega arith)
-
-pub six-is : (x y z : ℕ) → six x y z ≡ two x ++ (two y ++ two z)
-unfolding six two
-six-is x y z = refl
 
 -- bytes 2-255 of each sector, out of record number and data
 pub joined-pieces : (m ks : List ℕ) → joined (pieces 2 2 m ks) (contents m ks) ≡ pieces 2 254 m ks
@@ -46,48 +37,9 @@ joined-pieces m (k ∷ ks) =
 
 -- ---- pieces laid over a list
 
--- the piece has the bytes of m where it lies
-abbrev True : List ℕ → Piece → Type 0
-True m p = (i : ℕ) → i < length (bytesOf p) → getD m (begins p + i) 0 ≡ getD (bytesOf p) i 0
-
 part-true : (m : List ℕ) (at n : ℕ) (vs : List ℕ) → part m at n ≡ vs → True m (piece at vs)
 part-true m at n vs e i h =
     sym (part-at m at n i (omega (arith, length-part m at n, ap length e))) ∙ ap (λ (l : List ℕ). getD l i 0) e
-
--- a byte of a list over which pieces of m are laid is m's, if it was where no piece covers it
-laid-true : (m : List ℕ) (ps : List Piece) (b : List ℕ) (at : ℕ) → at < length b → Each (True m) ps → (Each (Off at) ps → getD b at 0 ≡ getD m at 0)
-    → getD (laid b ps) at 0 ≡ getD m at 0
-laid-true m [] b at h t k = k tt
-laid-true m (piece p vs ∷ ps) b at h t k = laid-true m ps (over b p vs) at (omega (arith, length-over b p vs)) (t .1) (go (decLt at p) (decLt at (p + length vs)))
-  where
-    go : Dec (at < p) → Dec (at < p + length vs) → Each (Off at) ps → getD (over b p vs) at 0 ≡ getD m at 0
-    go (yes u) v o = over-other b p vs at (λ x y. omega arith) ∙ k ((λ x y. omega arith), o)
-    go (no u) (no v) o = over-other b p vs at (λ x y. omega arith) ∙ k ((λ x y. omega arith), o)
-    go (no u) (yes v) o =
-        let i = at - p in
-        let e : p + i ≡ at = omega arith in
-        subst (λ (x : ℕ). getD (over b p vs) x 0 ≡ getD m x 0) e (over-in b p vs i (omega arith) (omega arith) ∙ sym (t .0 i (omega arith)))
-
-each-left : {A : Type 0} (P : A → Type 0) (xs ys : List A) → Each P (xs ++ ys) → Each P xs
-each-left P [] ys h = tt
-each-left P (x ∷ xs) ys h = (h .0, each-left P xs ys (h .1))
-
-each-right : {A : Type 0} (P : A → Type 0) (xs ys : List A) → Each P (xs ++ ys) → Each P ys
-each-right P [] ys h = h
-each-right P (x ∷ xs) ys h = each-right P xs ys (h .1)
-
--- the same of stores
-abbrev Stores : (Piece → Type 0) → List Store → Type 0
-Stores P ss = Each P (inImage ss)
-
-stores-append : (P : Piece → Type 0) (ss ts : List Store) → Stores P ss → Stores P ts → Stores P (ss ++ ts)
-stores-append P ss ts h k = rw (in-image-append ss ts) (each-append P (inImage ss) (inImage ts) h k)
-
-stores-left : (P : Piece → Type 0) (ss ts : List Store) → Stores P (ss ++ ts) → Stores P ss
-stores-left P ss ts h = each-left P (inImage ss) (inImage ts) (subst (Each P) (in-image-append ss ts) h)
-
-stores-right : (P : Piece → Type 0) (ss ts : List Store) → Stores P (ss ++ ts) → Stores P ts
-stores-right P ss ts h = each-right P (inImage ss) (inImage ts) (subst (Each P) (in-image-append ss ts) h)
 
 -- ---- the sectors that chains have: where no store covers a place, none of them is its sector
 
@@ -210,18 +162,8 @@ module _ (M S : ℕ) (z : Shape M S) (img tab : List ℕ) (a : Ledger) (r : Agre
   all-kept s h = kept s (omega (arith, r .ns))
 
   -- the information record's 29-34
-  pub record-is : part img 541 6 ≡ freeRecord S (a .free)
-  unfolding freeRecord
-  record-is =
-      let small : (p : ℕ) → 541 ≤ p → p < 547 → getD img p 0 < 256 = λ p u v. r .small p (of-record u v) in
-      rw (six-is (adr S (first (a .free) 0)) (adr S (lastOf (a .free) 0)) (length (a .free)))
-      (sym (
-      ap₂ (λ (x y : List ℕ). x ++ y) (sym (part-two img 541 _ (r .free .start) (small 541 (omega arith) (omega arith)) (small 542 (omega arith) (omega arith))))
-      (ap₂ (λ (x y : List ℕ). x ++ y) (sym (part-two img 543 _ (r .free .end) (small 543 (omega arith) (omega arith)) (small 544 (omega arith) (omega arith))))
-      (sym (part-two img 545 _ (r .free .size) (small 545 (omega arith) (omega arith)) (small 546 (omega arith) (omega arith)))))
-      ∙ ap (λ (l : List ℕ). part img 541 2 ++ l) (part-join img 2 2 543 545 refl)
-      ∙ part-join img 2 4 541 543 refl
-      ))
+  pub record-is : part img 541 6 ≡ chainRecord S (a .free)
+  record-is = chain-record S img 541 (a .free) (λ i h. r .small (541 + i) (of-record (omega arith) (omega arith))) (r .free)
 
   abbrev below : List Store
   below = chainStores S (a .dir) (a .heads) ++ fileStores S (a .slots)
@@ -229,9 +171,9 @@ module _ (M S : ℕ) (z : Shape M S) (img tab : List ℕ) (a : Ledger) (r : Agre
   abbrev stores : List Store
   stores = chainStores S (a .free) (a .spare) ++ below
 
-  all-true : Stores (True img) (store 2 29 (freeRecord S (a .free)) ∷ stores)
+  all-true : Stores (True img) (store 2 29 (chainRecord S (a .free)) ∷ stores)
   all-true = (
-    part-true img 541 6 (freeRecord S (a .free)) record-is,
+    part-true img 541 6 (chainRecord S (a .free)) record-is,
     stores-append (True img) (chainStores S (a .free) (a .spare)) below
         (subst (λ (vs : List (List ℕ)). Stores (True img) (chainStores S (a .free) vs)) (sym (r .spare))
         (data-true (a .free) (free-data M S z img tab a r) (r .free .seg)))
@@ -241,7 +183,7 @@ module _ (M S : ℕ) (z : Shape M S) (img tab : List ℕ) (a : Ledger) (r : Agre
   )
 
   -- what no store covers is as in the start's image
-  all-off : (at : ℕ) → at < length img → Stores (Off at) (store 2 29 (freeRecord S (a .free)) ∷ stores) → getD (a .base) at 0 ≡ getD img at 0
+  all-off : (at : ℕ) → at < length img → Stores (Off at) (store 2 29 (chainRecord S (a .free)) ∷ stores) → getD (a .base) at 0 ≡ getD img at 0
   all-off at h o = go (decLt at (256 * S))
     where
       fr : tally (at / 256) (a .free) ≡ 0
@@ -298,9 +240,9 @@ module _ (M S : ℕ) (z : Shape M S) (img tab : List ℕ) (a : Ledger) (r : Agre
   pub image-is : img ≡ imageOf S a
   unfolding imageOf
   image-is =
-      ext-getD 0 img (stored (a .base) (store 2 29 (freeRecord S (a .free)) ∷ stores))
-      (r .len ∙ sym (length-stored (store 2 29 (freeRecord S (a .free)) ∷ stores) (a .base)))
+      ext-getD 0 img (stored (a .base) (store 2 29 (chainRecord S (a .free)) ∷ stores))
+      (r .len ∙ sym (length-stored (store 2 29 (chainRecord S (a .free)) ∷ stores) (a .base)))
       (λ i h. sym (
-      ap (λ (l : List ℕ). getD l i 0) (stored-laid (store 2 29 (freeRecord S (a .free)) ∷ stores) (a .base))
-      ∙ laid-true img (inImage (store 2 29 (freeRecord S (a .free)) ∷ stores)) (a .base) i (omega (arith, r .len)) all-true (all-off i h)
+      ap (λ (l : List ℕ). getD l i 0) (stored-laid (store 2 29 (chainRecord S (a .free)) ∷ stores) (a .base))
+      ∙ laid-true img (inImage (store 2 29 (chainRecord S (a .free)) ∷ stores)) (a .base) i (omega (arith, r .len)) all-true (all-off i h)
       ))

@@ -11,7 +11,7 @@ use lib.Dec.{eqb, ltb}
 use borrow.Author.Tests.{ne-eqb, eq-eqb, le-ltb, lt-ltb}
 use Rattle.rules.specs.Bytes.{pick, byteAt, part, one, two}
 use Rattle.rules.specs.Stores.{Put, put, puts}
-use Rattle.rules.specs.Image.{index, isData}
+use Rattle.rules.specs.Image.{index, isData, adr}
 use Rattle.rules.specs.Directory.{slotsOf}
 use Rattle.rules.specs.Outcome.{refuse, done}
 use Rattle.rules.specs.Transfer.{nextToRead, loadPuts, load, reading as readByte}
@@ -19,12 +19,14 @@ use Rattle.rules.specs.Files.{rewind}
 use Rattle.laws.specs.Bytes.{word-put, word-same, part-at, length-part, length-one}
 use Rattle.chains.specs.Tally.{tally}
 use Rattle.laws.specs.Addresses.{Shape}
-use Rattle.chains.specs.Addresses.{adr, adr-zero, adr-pos, adr-small, index-adr, data-adr}
+use Rattle.chains.specs.Addresses.{adr-zero}
+use Rattle.chains.specs.Data.{InData, sector-pos, sector-small, sector-index, sector-data}
 use Rattle.chains.specs.Chain.{tally-getD, seg-at, pieces-at}
 use Rattle.laws.specs.Each.{Each}
 use Rattle.laws.specs.Stores.{Within, puts-off, puts-at}
 use Rattle.demands.specs.Ledger.{File, noFile, Block, closed, reading, Ledger, Request, denied, granted, setBlock, loaded, transferred, rewound}
-use Rattle.met.specs.Relation.{tb, t2, opens, writes, Holds, Reading, Keeps, Agrees, t2-same, tp-same, all-low, all-high, slot-le}
+use Rattle.met.specs.Sectors.{secs-data}
+use Rattle.met.specs.Relation.{tb, t2, opens, writes, Holds, Reading, Keeps, Agrees, t2-same, tp-same}
 use Rattle.met.specs.Quiet.{turned, on-block}
 use Rattle.met.specs.Meets.{Meets, meets-pick}
 use Rattle.met.specs.Picture.{sector-is}
@@ -101,14 +103,8 @@ module _ (M S : ℕ) (z : Shape M S) (img tab : List ℕ) (a : Ledger) (r : Agre
     kt : 1 ≤ tally k l
     kt = tally-getD l j jl
 
-    k-low : S ≤ k
-    k-low = all-low M S z img tab a r k (omega (arith, kt, slot-le M S z img tab a r s k (w .slot)))
-
-    k-pos : 1 ≤ k
-    k-pos = omega (arith, k-low, z .sectors)
-
-    k-high : k < (M + 1) * S
-    k-high = all-high M S z img tab a r k (omega (arith, kt, slot-le M S z img tab a r s k (w .slot)))
+    kd : InData M S k
+    kd = secs-data M S z img tab a r s (w .slot) k kt
 
     h : Holds S img (getD (slotsOf (a .dir)) s 0) f
     h = r .holds s (w .slot)
@@ -142,7 +138,7 @@ module _ (M S : ℕ) (z : Shape M S) (img tab : List ℕ) (a : Ledger) (r : Agre
     pos : t2 tab′ n 30 ≡ adr S k
     unfolding two one
     pos =
-        word-put tab′ (320 * n + 30) (adr S k) (adr-small M S z k k-pos k-high)
+        word-put tab′ (320 * n + 30) (adr S k) (sector-small M S z k kd)
         (puts-at ps tab (320 * n) 0 0 (320 * n + 30) (omega arith) (omega arith) (omega arith) (in-table 30 (omega arith)) (omega (arith, l2)))
         (ap (λ (p : ℕ). getD tab′ p 0) (omega arith) ∙ puts-at ps tab (320 * n) 0 1 (320 * n + 31) (omega arith) (omega arith) (omega arith) (in-table 31 (omega arith)) (omega (arith, l2)))
 
@@ -162,7 +158,7 @@ module _ (M S : ℕ) (z : Shape M S) (img tab : List ℕ) (a : Ledger) (r : Agre
       start = t2-same tab tab′ n 17 (lsame 17 (omega arith)) (lsame 18 (omega arith)) ∙ w .start;
       loaded = omega (arith, jl);
       before = λ q. absurd (omega arith);
-      after = λ q t. omega (arith, pos, adr-pos M S z k k-pos k-high);
+      after = λ q t. omega (arith, pos, sector-pos M S z k kd);
       link = λ q. word-same img tab′ (256 * k) (320 * n + 64) (buf 0 (omega arith) ∙ ap (λ (p : ℕ). getD img p 0) (omega arith)) (ap (λ (p : ℕ). getD tab′ p 0) (omega arith) ∙ buf 1 (omega arith))
           ∙ seg-at S img l j jl ((h .chain (w .alive)) .seg);
       at = puts-at ps tab (320 * n) 3 0 (320 * n + 34) (omega arith) (omega arith) (omega arith) (in-table 34 (omega arith)) tt;
@@ -201,12 +197,12 @@ module _ (M S : ℕ) (z : Shape M S) (img tab : List ℕ) (a : Ledger) (r : Agre
           (pick (ltb j (length l)) (granted (getD (getD (f .body) j []) 0 0) (setBlock a n (reading s (suc j) 5)) (loaded S f j)) (denied 8))
       go (yes jl) =
           rw (
-            ne-eqb (adr S (getD l j 0)) 0 (omega (arith, adr-pos M S z (getD l j 0) (k-pos jl) (k-high jl))),
-            data-adr M S z (getD l j 0) (k-pos jl) (k-high jl) (k-low jl),
-            index-adr M S z (getD l j 0) (k-pos jl) (k-high jl),
+            ne-eqb (adr S (getD l j 0)) 0 (omega (arith, sector-pos M S z (getD l j 0) (kd jl))),
+            sector-data M S z (getD l j 0) (kd jl),
+            sector-index M S z (getD l j 0) (kd jl),
             lt-ltb j (length l) jl,
           )
-          (load-byte jl, load-puts jl, load-within jl, load-step jl)
+          (load-byte jl, load-puts jl, load-within jl, λ plain. load-step jl)
       go (no jl) =
           let p : adr S (getD l j 0) ≡ 0 = ap (adr S) (List·getD-eq-default l 0 (omega arith)) ∙ adr-zero S in
           rw (eq-eqb (adr S (getD l j 0)) 0 p, le-ltb j (length l) (omega arith)) (refl, omega arith)
@@ -216,7 +212,7 @@ module _ (M S : ℕ) (z : Shape M S) (img tab : List ℕ) (a : Ledger) (r : Agre
   read-meets q =
       meets-pick M S img tab n (eqb (tb tab n 34) 0) (eqb i 0) _ _ _ _ (ap (λ (x : ℕ). eqb x 0) (w .at))
       (λ h. rw wanted load-meets)
-      (λ h. rw (w .at) (gave-byte (pos-of h), refl, (omega (arith, length-one ((i + 1) % 256)), tt), gave-step (pos-of h)))
+      (λ h. rw (w .at) (gave-byte (pos-of h), refl, (omega (arith, length-one ((i + 1) % 256)), tt), λ plain. gave-step (pos-of h)))
     where
       pos-of : eqb i 0 ≡ false → 1 ≤ i
       pos-of h = let ne : i ≢ 0 = borrow.Author.Tests.eqb-false i 0 h in omega arith
@@ -252,4 +248,4 @@ module _ (M S : ℕ) (z : Shape M S) (img tab : List ℕ) (a : Ledger) (r : Agre
   pub rewind-meets : (q : Request) → Meets M S img tab n rewind (rewound M S a n q (reading s j i))
   unfolding rewind one two
   rewind-meets q =
-      (refl, refl, (omega arith, (omega arith, (omega arith, tt))), on-block M S z img tab a r n hn (puts tab (320 * n) rs) (reading s 0 0) (turned tab n rs (omega arith)) (ap opens (sym e)) (ap writes (sym e)) rewind-now)
+      (refl, refl, (omega arith, (omega arith, (omega arith, tt))), λ plain. on-block M S z img tab a r n hn (puts tab (320 * n) rs) (reading s 0 0) (turned tab n rs (omega arith)) (ap opens (sym e)) (ap writes (sym e)) rewind-now)

@@ -8,14 +8,15 @@ use native.Mathlib.Omega.{arith}
 use native.Mathlib.Decide.{ℕ-discrete}
 use lib.ListN.{length, getD, set, length-append, length-set, List·getD-append}
 use lib.Seq.{getD-set-same, getD-set-other}
-use Rattle.rules.specs.Bytes.{wordAt, part, zeros}
-use Rattle.rules.specs.Directory.{live, slotsOf, placeOf, lastOf}
+use Rattle.rules.specs.Image.{adr}
+use Rattle.rules.specs.Bytes.{wordAt, part, zeros, flat}
+use Rattle.rules.specs.Directory.{live, slotsOf, placeOf, lastOf, first}
 use Rattle.laws.specs.Bytes.{word-same, part-same}
-use Rattle.chains.specs.Tally.{tally, tally-append, flat, tally-set, tally-one, tally-two}
+use Rattle.chains.specs.Tally.{tally, tally-append, tally-set, tally-one, tally-two}
 use Rattle.chains.specs.Once.{Once, once-eq, once-le}
 use Rattle.laws.specs.Addresses.{Shape}
-use Rattle.chains.specs.Addresses.{Sized, adr, room-for}
-use Rattle.chains.specs.Chain.{first, Seg, Chain, pieces, contents, seg-same, pieces-same, chain-same}
+use Rattle.chains.specs.Addresses.{Sized, room-for}
+use Rattle.chains.specs.Chain.{Seg, Chain, pieces, contents, seg-same, pieces-same, chain-same}
 use Rattle.chains.specs.Directory.{Listing}
 use Rattle.chains.specs.Walk.{dataOf, tally-data}
 use Rattle.chains.specs.Frame.{Address, Frame}

@@ -11,9 +11,9 @@ use lib.Dec.{eqb}
 use borrow.Author.Tests.{ne-eqb, eq-eqb, le-ltb}
 use Rattle.rules.specs.Bytes.{pick, wordAt, part, one, two, six}
 use Rattle.rules.specs.Stores.{Store, store, stored, Put, put, puts}
-use Rattle.rules.specs.Image.{isData}
+use Rattle.rules.specs.Image.{isData, adr}
 use Rattle.rules.specs.Names.{legal}
-use Rattle.rules.specs.Directory.{slotsOf, live, named, placeOf, attributesAt, lastOf}
+use Rattle.rules.specs.Directory.{slotsOf, live, named, placeOf, attributesAt, lastOf, first}
 use Rattle.rules.specs.Outcome.{refuse, done, onSlot, onNone}
 use Rattle.rules.specs.Block.{inUse}
 use Rattle.rules.specs.Transfer.{mark}
@@ -21,8 +21,9 @@ use Rattle.rules.specs.Files.{writeProtected, deleteProtected, hangStores, gone
 use Rattle.laws.specs.Bytes.{word-put, part-is, part-same, length-part, length-one}
 use Rattle.chains.specs.Tally.{tally, tally-append, apart}
 use Rattle.laws.specs.Addresses.{Shape}
-use Rattle.chains.specs.Addresses.{adr, absurd-bool}
-use Rattle.chains.specs.Chain.{first, Chain, tally-last, first-in, last-append, seg-same, chain-same, empty, pieces, pieces-same, pieces-append}
+use Rattle.chains.specs.Addresses.{absurd-bool}
+use Rattle.chains.specs.Chain.{Chain, tally-last, first-in, last-append, seg-same, chain-same, empty, pieces, pieces-same, pieces-append}
+use Rattle.chains.specs.Data.{AllData, sector-small, sector-data, last-data, index-last, last-small}
 use Rattle.chains.specs.Moves.{hung-on}
 use Rattle.laws.specs.Small.{small-two, small-six}
 use Rattle.laws.specs.Each.{Each}
@@ -32,8 +33,7 @@ use Rattle.demands.specs.Ledger.{File, noFile, Block, closed, Ledger, denied, g
 use Rattle.met.specs.Relation.{t2, opens, Holds, Keeps, Agrees, tp-same, Turn, step, long}
 use Rattle.met.specs.Quiet.{turned, shut-writes, idle-kept}
 use Rattle.met.specs.Meets.{Meets, meets-unless, meets-when}
-use Rattle.chains.specs.Walk.{AllData}
-use Rattle.met.specs.Sectors.{free-data, free-off, secs-data, secs-off, secs-once, few, fits, sector-small, sector-data, last-data, index-last, last-small, linked-is}
+use Rattle.met.specs.Sectors.{free-data, free-off, secs-data, secs-off, secs-once, few, fits, linked-is}
 use Rattle.met.specs.Searches.{legal-part, find-is, in-use-is, attributes-is, lookedUp, seek-found, named-hit, not-busy, not-open}
 use Rattle.met.specs.Marks.{slot-low, slot-row, slot-apart, slot-in, length-name, slot-off, slot-at, slot-frame, slot-free, slot-spare, mark-holds, mark-step}
 use Rattle.met.specs.Picture.{joined-pieces, entry-is}
@@ -258,7 +258,7 @@ module _ (M S : ℕ) (z : Shape M S) (img tab : List ℕ) (a : Ledger) (r : Agre
             let u : a .spare ++ joined (f .recs) (f .body) ≡ a .spare =
             ap (λ (x : List (List ℕ)). a .spare ++ x) (ap₂ joined (r .holds s hs .recs) (r .holds s hs .body) ∙ joined-pieces img l ∙ ap (pieces 2 254 img) (empty l p)) ∙ append-nil (a .spare) in
             rw (e17, eq-eqb (length l) 0 p, q, u)
-            (refl, gone-puts, gone-within, mark-step M S z img tab a r s hs n tab′ (getD (a .blocks) n closed) hn (empty l p) gone-turn oz (shut-writes (getD (a .blocks) n closed) oz) gone-kept nobody)
+            (refl, gone-puts, gone-within, λ plain. mark-step M S z img tab a r s hs n tab′ (getD (a .blocks) n closed) hn (empty l p) gone-turn oz (shut-writes (getD (a .blocks) n closed) oz) gone-kept nobody)
         go (no p) =
             let some : 1 ≤ length l = omega arith in
             let u = l-data some (first l 0) (first-in l 0 some) in
@@ -277,7 +277,7 @@ module _ (M S : ℕ) (z : Shape M S) (img tab : List ℕ) (a : Ledger) (r : Agre
               r .free .start,
               stores-eq some,
             )
-            (refl, gone-puts, gone-within, hang-step some n tab′ (getD (a .blocks) n closed) hn gone-turn oz gone-kept nobody)
+            (refl, gone-puts, gone-within, λ plain. hang-step some n tab′ (getD (a .blocks) n closed) hn gone-turn oz gone-kept nobody)
 
     -- ---- the slot gets another name
     module _ (nn : List ℕ) (ln : length nn ≡ 11) (newlive : live nn 0 ≡ true) where
@@ -387,4 +387,4 @@ module _ (M S : ℕ) (z : Shape M S) (img tab : List ℕ) (a : Ledger) (r : Agre
               (onNone (lookedUp (slotsOf (a .dir)) y) 5 3 (done 0 (store (getD (slotsOf (a .dir)) s 0 / 256) (getD (slotsOf (a .dir)) s 0 % 256) nn ∷ []) (put 4 nn ∷ [])))
               (onSought y (granted 0 (setFile a s (withName (getD (a .slots) s noFile) nn) n (getD (a .blocks) n closed)) (put 4 nn ∷ [])) (λ t. denied 3))
           last s hs alive h2 v (slot t) = (refl, omega arith)
-          last s hs alive h2 v nowhere = (refl, refl, omega (arith, length-part tab (320 * n + 53) 11), rename-step M S z img tab a r s hs alive n hn oz h2 nn (length-part tab (320 * n + 53) 11) v)
+          last s hs alive h2 v nowhere = (refl, refl, omega (arith, length-part tab (320 * n + 53) 11), λ plain. rename-step M S z img tab a r s hs alive n hn oz h2 nn (length-part tab (320 * n + 53) 11) v)

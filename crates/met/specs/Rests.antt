@@ -22,9 +22,9 @@ use Rattle.met.specs.Searches.{seek-found, named-hit}
 use Rattle.met.specs.Opens.{legal-live}
 use Rattle.met.specs.Tidy.{nameOf, Tidy, found-there}
 use Rattle.met.specs.Changes.{Change, Changes, changes, length-grows, rename-legal, Slot, kept, own, fresh, lost, moved, slot-fate, writes-before}
-use Rattle.demands.specs.Service.{flex, Machine, answers, gave, next, entry, log}
-use Rattle.demands.specs.History.{Scene, then, history, scenes, onCall, hits, nameAfter, nameThen, Survives, Unnamed}
-use Rattle.met.specs.Runs.{Fine, Likewise, asked, beyond, likewise-set, likewise-extend, likewise-refused, likewise-asked, step}
+use Rattle.demands.specs.Service.{flex, Machine, answers, next, entry, log}
+use Rattle.demands.specs.History.{Scene, then, history, scenes, onCall, Plain, hits, nameAfter, nameThen, Survives, Unnamed}
+use Rattle.met.specs.Runs.{sceneOf, Fine, Likewise, asked, beyond, likewise-set, likewise-extend, likewise-refused, likewise-asked, step}
 
 -- slot s has the file f, which is live, and no block writes it
 pub record Rests (a : Ledger) (s : ℕ) (f : File) : Type 0 where
@@ -98,10 +98,6 @@ module _ (a : Ledger) (t : Tidy (a .slots)) (s : ℕ) (f : File) (r : Rests a s 
 
 -- ---- over the log
 
--- a call of ours as the history sees it
-abbrev pub sceneOf : Machine → Ledger → Call → Scene
-sceneOf x a c = record { before = a; made = c; ans = answers flex x c; back = gave flex x c }
-
 -- the name that it gives, if it renames
 abbrev newName : List ℕ → Scene → List ℕ
 newName nm c = onCall (c .made) nm (λ m b. asks (c .before) m b .rename)
@@ -166,18 +162,18 @@ module _ (M S : ℕ) (z : Shape M S) where
 
   -- it stays through every list of calls that does not delete it, and has then its name of then
   pub rests : (cs : List Call) (x : Machine) (a : Ledger) → Fine M S x a → (s : ℕ) (f : File) → Rests a s f
-      → Survives (f .name) (scenes M S a (log flex x cs))
+      → Plain (scenes M S a (log flex x cs)) → Survives (f .name) (scenes M S a (log flex x cs))
       → Rests (history M S a (log flex x cs)) s (withName f (nameThen (f .name) (scenes M S a (log flex x cs))))
   unfolding log history scenes entry nameThen
-  rests [] x a g s f r v = r
-  rests (c ∷ cs) x a g s f r v =
+  rests [] x a g s f r p v = r
+  rests (c ∷ cs) x a g s f r p v =
       let sc = sceneOf x a c in
       let u = hits 13 (f .name) sc in
       let nn = newName (f .name) sc in
       let a′ = then M S a (entry flex x c) in
       let ss = scenes M S a′ (log flex (next flex x c) cs) in
       let q = titled-name f u nn in
-      let y = rests cs (next flex x c) a′ (step M S z x a g c .fine) s (titled f u nn) (rest-one x a g s f r c (v .0))
+      let y = rests cs (next flex x c) a′ (step M S z x a g c .fine (p .0)) s (titled f u nn) (rest-one x a g s f r c (v .0)) (p .1)
       (subst (λ (k : List ℕ). Survives k ss) (sym q) (v .1)) in
       subst (λ (k : File). Rests (history M S a′ (log flex (next flex x c) cs)) s k)
       (ap (λ (k : List ℕ). withName (titled f u nn) (nameThen k ss)) q ∙ titled-with f u nn (nameThen (pick u nn (f .name)) ss)) y
@@ -192,8 +188,8 @@ module _ (M S : ℕ) (z : Shape M S) where
       ((v .0, subst (λ (k : List ℕ). Survives k ss) (sym q) (y .0)), ap (λ (k : List ℕ). nameThen k ss) q ∙ y .1)
 
   pub rests-same : (cs : List Call) (x : Machine) (a : Ledger) → Fine M S x a → (s : ℕ) (f : File) → Rests a s f
-      → Unnamed (f .name) (scenes M S a (log flex x cs))
+      → Plain (scenes M S a (log flex x cs)) → Unnamed (f .name) (scenes M S a (log flex x cs))
       → Rests (history M S a (log flex x cs)) s f
-  rests-same cs x a g s f r v =
+  rests-same cs x a g s f r p v =
       let y = unnamed-survives (f .name) (scenes M S a (log flex x cs)) v in
-      subst (λ (k : List ℕ). Rests (history M S a (log flex x cs)) s (withName f k)) (y .1) (rests cs x a g s f r (y .0))
+      subst (λ (k : List ℕ). Rests (history M S a (log flex x cs)) s (withName f k)) (y .1) (rests cs x a g s f r p (y .0))

@@ -1,4 +1,4 @@
--- Our service over every list of calls: image and table stay in agreement with the history, the directory tidy, and every answer is the predicted one.
+-- Our service over every list of plain calls: image and table stay in agreement with the history, the directory tidy, and every answer is the predicted one.
 use mathlib.Core.Path.{_≡_, refl, sym, ap, _∙_, subst}
 use mathlib.Core.Logic.{_≢_}
 use mathlib.Core.Bool.{Bool, true, false}
@@ -14,7 +14,7 @@ use Rattle.rules.specs.Bytes.{pick, part, one, zeros}
 use Rattle.rules.specs.Stores.{Put, put, stored, puts}
 use Rattle.rules.specs.Outcome.{Effect, effect, answer, given, onImage, onBlock, out}
 use Rattle.rules.specs.Image.{lastTrack, perTrack}
-use Rattle.rules.specs.Block.{blockAt, presettable, idle, activityIn, presetIn, extensionIn, extension, preset}
+use Rattle.rules.specs.Block.{blockAt, functionIn, presettable, idle, activityIn, presetIn, extensionIn, extension, preset}
 use Rattle.rules.specs.Call.{call}
 use Rattle.rules.specs.Census.{Survey, survey, census}
 use Rattle.laws.specs.Bytes.{length-one, length-part}
@@ -25,10 +25,10 @@ use Rattle.laws.specs.Effects.{call-wrong, preset-quiet, extension-quiet}
 use Rattle.laws.specs.Surveys.{Sane, census-is}
 use Rattle.laws.specs.Addresses.{Shape, Shaped}
 use Rattle.chains.specs.Addresses.{Sized}
-use Rattle.demands.specs.Ledger.{Call, setting, extending, asking, blockOf, Ledger, fcb, Request, asks, request, Fate, denied, granted, ended, edits, reply, gives, after, called, fate, putInto}
+use Rattle.demands.specs.Ledger.{Call, setting, extending, asking, blockOf, writesRaw, Ledger, fcb, Request, asks, request, Fate, denied, granted, ended, edits, reply, gives, after, called, fate, putInto}
 use Rattle.demands.specs.Diskette.{ledgerOf}
 use Rattle.demands.specs.Service.{flex, ansOf, byteOf, Machine, outcome, answers, gave, next, entry, run, log}
-use Rattle.demands.specs.History.{noted, then, history, scenes, Told}
+use Rattle.demands.specs.History.{noted, Scene, then, history, scenes, Told, raw, Plain}
 use Rattle.demands.specs.Demands.{Start, begun, surveyAnswer, dataSectors}
 use Rattle.met.specs.Relation.{Agrees}
 use Rattle.met.specs.Meets.{Sure, putsBy, ledgerBy, Met}
@@ -89,9 +89,17 @@ reform M S img tab a n ps r = record {
   aside = r .aside;
 }
 
--- a call of ours in the ledger
+-- a call of ours as the history sees it
+abbrev pub sceneOf : Machine → Ledger → Call → Scene
+sceneOf x a c = record { before = a; made = c; ans = answers flex x c; back = gave flex x c }
+
+-- it is none of the raw writes, by its code
+pub plain-code : (x : Machine) (a : Ledger) (n b k : ℕ) → asks a n b .code ≡ k → writesRaw k ≡ false → raw (sceneOf x a (asking n b)) ≡ false
+plain-code x a n b k e h = rw (e, h) refl
+
+-- a call of ours in the ledger; what an accepted raw write leaves agrees with none
 pub record Step (M S : ℕ) (x : Machine) (a : Ledger) (c : Call) : Type 0 where
-  pub fine : Fine M S (next flex x c) (then M S a (entry flex x c))
+  pub fine : raw (sceneOf x a c) ≡ false → Fine M S (next flex x c) (then M S a (entry flex x c))
   pub ans : answers flex x c ≡ reply (fate M S a c)
   pub byte : gave flex x c ≡ gives (fate M S a c)
 
@@ -162,32 +170,47 @@ module _ (M S : ℕ) (z : Shape M S) (x : Machine) (a : Ledger) (f : Fine M S x 
     forms-by (denied e) c = refl
     forms-by (granted v a′ ps) c = forms-kept a a′ n (asks a n b) c
 
-    ask-fine : Fine M S (next flex x (asking n b)) (putInto (ledgerBy a φ) n (putsBy (ended φ)))
+    -- the blocks' bytes after it
+    ask-formed : Formed (next flex x (asking n b) .tab) (putInto (ledgerBy a φ) n (putsBy (ended φ)) .fcbs)
     unfolding next outcome
-    ask-fine =
-        let ch = changes M S a n (asks a n b) in
+    ask-formed =
         let tab′ = puts (x .tab) (320 * n) (onBlock (call (x .img) (x .tab) n b)) in
-        let fs = forms-by φ ch in
+        subst (λ (y : List (List ℕ)). Formed tab′ (set y n (puts (getD y n []) 0 (putsBy (ended φ))))) (sym (forms-by φ (changes M S a n (asks a n b))))
+        (subst (λ (ps : List Put). Formed tab′ (set (a .fcbs) n (puts (getD (a .fcbs) n []) 0 ps))) (met .laid)
+        (formed-puts (x .tab) (a .fcbs) (f .formed) (f .agrees .tlen) n (onBlock (call (x .img) (x .tab) n b)) hn (met .within)))
+
+    -- if it was accepted, it is no raw write
+    not-raw : raw (sceneOf x a (asking n b)) ≡ false → reply (ended φ) ≡ 0 → writesRaw (functionIn (x .tab) (320 * n)) ≡ false
+    unfolding outcome
+    not-raw p e =
+        ap (λ (q : Request). writesRaw (q .code)) (asks-is n b hn) ∙ go (writesRaw (asks a n b .code)) (rw (eq-eqb (answer (call (x .img) (x .tab) n b)) 0 (met .ans ∙ e)) at p)
+      where
+        go : (u : Bool) → pick u true false ≡ false → u ≡ false
+        go true h = h
+        go false h = refl
+
+    ask-fine : raw (sceneOf x a (asking n b)) ≡ false → Fine M S (next flex x (asking n b)) (putInto (ledgerBy a φ) n (putsBy (ended φ)))
+    unfolding next outcome
+    ask-fine p =
+        let tab′ = puts (x .tab) (320 * n) (onBlock (call (x .img) (x .tab) n b)) in
         record {
           agrees = reform M S (stored (x .img) (onImage (call (x .img) (x .tab) n b))) tab′ (ledgerBy a φ) n (putsBy (ended φ))
-              (subst (λ (y : Ledger). Agrees M S (stored (x .img) (onImage (call (x .img) (x .tab) n b))) tab′ y) (ended-ledger a φ) (met .rep));
-          tidy = tidy-by φ ch;
-          formed = subst (λ (y : List (List ℕ)). Formed tab′ (set y n (puts (getD y n []) 0 (putsBy (ended φ))))) (sym fs)
-              (subst (λ (ps : List Put). Formed tab′ (set (a .fcbs) n (puts (getD (a .fcbs) n []) 0 ps))) (met .laid)
-              (formed-puts (x .tab) (a .fcbs) (f .formed) (f .agrees .tlen) n (onBlock (call (x .img) (x .tab) n b)) hn (met .within)));
+              (subst (λ (y : Ledger). Agrees M S (stored (x .img) (onImage (call (x .img) (x .tab) n b))) tab′ y) (ended-ledger a φ) (met .rep (not-raw p)));
+          tidy = tidy-by φ (changes M S a n (asks a n b));
+          formed = ask-formed;
         }
 
     -- the bytes of its block afterwards
     pub block-after : part (next flex x (asking n b) .tab) (320 * n) 320 ≡ puts (fcb a n) 0 (putsBy (ended φ))
     block-after =
         let fs = forms-by φ (changes M S a n (asks a n b)) in
-        ask-fine .formed .is n hn ∙ getD-set-same ((ledgerBy a φ) .fcbs) n (puts (fcb (ledgerBy a φ) n) 0 (putsBy (ended φ))) [] (omega (arith, ap length fs, f .formed .count))
+        ask-formed .is n hn ∙ getD-set-same ((ledgerBy a φ) .fcbs) n (puts (fcb (ledgerBy a φ) n) 0 (putsBy (ended φ))) [] (omega (arith, ap length fs, f .formed .count))
         ∙ ap (λ (y : List (List ℕ)). puts (getD y n []) 0 (putsBy (ended φ))) fs
 
     pub ask-step : Step M S x a (asking n b)
     unfolding outcome
     ask-step = record {
-      fine = subst (λ (y : Ledger). Fine M S (next flex x (asking n b)) y) (sym (asked .is)) ask-fine;
+      fine = λ p. subst (λ (y : Ledger). Fine M S (next flex x (asking n b)) y) (sym (asked .is)) (ask-fine p);
       ans = met .ans ∙ ap reply (sym fate-here);
       byte = met .byte ∙ ap gives (sym fate-here);
     }
@@ -204,7 +227,7 @@ module _ (M S : ℕ) (z : Shape M S) (x : Machine) (a : Ledger) (f : Fine M S x 
         formed = formed-beyond (x .tab) (a .fcbs) (f .formed) (f .agrees .tlen) n (puts (fcb a n) 0 (put 1 (one 13) ∷ [])) h;
       } in
       record {
-        fine = subst
+        fine = λ p. subst
             (λ (w : Effect). Fine M S (record { img = stored (x .img) (onImage w); tab = puts (x .tab) (blockAt n) (onBlock w) })
             (pick (eqb (answer w) 0) (after a n (pick (ltb n 8) (ended (called M S a n (asks a n b))) (denied 13))) (putInto a n (put 1 (one (answer w)) ∷ []))))
             (sym e) after-it;
@@ -257,7 +280,7 @@ module _ (M S : ℕ) (z : Shape M S) (x : Machine) (a : Ledger) (f : Fine M S x 
       → Agrees M S (x .img) (puts (x .tab) (320 * n) (onBlock e)) a → Step M S x a c
   unfolding next then entry
   edited c n e e′ o ft bc nt hn same within refused still = record {
-    fine = rw (o, ft, bc, nt (answer e)) (edit-fine n e e′ hn same within refused still);
+    fine = λ p. rw (o, ft, bc, nt (answer e)) (edit-fine n e e′ hn same within refused still);
     ans = ap ansOf o ∙ edit-answer n e e′ hn same within refused still ∙ ap reply (sym ft);
     byte = ap byteOf o ∙ edit-byte n e e′ hn same within refused still ∙ ap gives (sym ft);
   }
@@ -267,7 +290,7 @@ module _ (M S : ℕ) (z : Shape M S) (x : Machine) (a : Ledger) (f : Fine M S x 
       → Step M S x a c
   unfolding next then entry
   unedited c o ft nt = record {
-    fine = rw (o, nt 13) f;
+    fine = λ p. rw (o, nt 13) f;
     ans = ap ansOf o ∙ ap reply (sym ft);
     byte = ap byteOf o ∙ ap gives (sym ft);
   }
@@ -362,15 +385,15 @@ likewise-asked M S x a n b k =
     subst (λ (y : Ledger). Likewise (ledgerBy a (called M S a n (asks a n b))) y) (sym (k .is))
     (likewise-puts (ledgerBy a (called M S a n (asks a n b))) n (putsBy (ended (called M S a n (asks a n b)))))
 
--- THE HISTORY: after every list of calls
+-- THE HISTORY: after every list of plain calls
 module _ (M S : ℕ) (z : Shape M S) where
-  pub always : (cs : List Call) (x : Machine) (a : Ledger) → Fine M S x a
+  pub always : (cs : List Call) (x : Machine) (a : Ledger) → Fine M S x a → Plain (scenes M S a (log flex x cs))
       → Fine M S (run flex x cs) (history M S a (log flex x cs)) × Told M S (scenes M S a (log flex x cs))
   unfolding run log history scenes entry
-  always [] x a f = (f, tt)
-  always (c ∷ cs) x a f =
+  always [] x a f p = (f, tt)
+  always (c ∷ cs) x a f p =
       let s = step M S z x a f c in
-      let u = always cs (next flex x c) (then M S a (entry flex x c)) (s .fine) in
+      let u = always cs (next flex x c) (then M S a (entry flex x c)) (s .fine (p .0)) (p .1) in
       (u .0, (s .ans, s .byte, u .1))
 
 -- ---- a start is fine, with the ledger of its image and its table

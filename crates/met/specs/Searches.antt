@@ -10,11 +10,12 @@ use lib.ListN.{length, getD, set}
 use borrow.Author.Tests.{eqb-false, not-true}
 use Rattle.rules.specs.Bytes.{pick, part, same}
 use Rattle.rules.specs.Names.{legal}
-use Rattle.rules.specs.Directory.{slots, slotsOf, neverUsed, deleted, live, scan, named, vacant, find, vacancy, placeOf, attributesAt}
+use Rattle.rules.specs.Directory.{slotsOf, neverUsed, deleted, live, scan, named, vacant, find, vacancy, placeOf, attributesAt}
 use Rattle.rules.specs.Block.{counts, uses, usedBelow, inUse}
 use Rattle.rules.specs.declared.Lookup.{Lookup}
 use Rattle.rules.specs.declared.Lookup.the-variants.{At, Missing}
-use Rattle.laws.specs.Bytes.{part-at, part-same, part-all, length-part, same-eq}
+use Rattle.laws.specs.Bytes.{part-head, part-at, part-same, part-all, length-part, same-eq}
+use Rattle.laws.specs.Slots.{live-at}
 use Rattle.laws.specs.Addresses.{Shape}
 use Rattle.laws.specs.Tests.{both}
 use Rattle.chains.specs.Addresses.{absurd-bool}
@@ -28,9 +29,6 @@ pub part-part : (m : List ℕ) (p n i k : ℕ) → i + k ≤ n → part (part m 
 part-part m p n i k h =
     part-same m (part m p n) (p + i) i k (λ j b. part-at m p n (i + j) (omega arith) ∙ ap (λ (x : ℕ). getD m x 0) (omega arith))
 
-pub part-head : (m : List ℕ) (p n : ℕ) → getD m p 0 ≡ getD (part m p (suc n)) 0 0
-part-head m p n = sym (part-at m p (suc n) 0 (omega arith) ∙ ap (λ (x : ℕ). getD m x 0) (omega arith))
-
 -- a name is legal by its eleven bytes
 pub legal-part : (m : List ℕ) (p : ℕ) → legal m p ≡ legal (part m p 11) 0
 unfolding legal
@@ -40,13 +38,6 @@ legal-part m p =
     rw (e, f) refl
 
 -- ---- what a slot's first byte says
-
-pub live-same : (m m′ : List ℕ) (o o′ : ℕ) → getD m o 0 ≡ getD m′ o′ 0 → live m o ≡ live m′ o′
-unfolding live neverUsed deleted
-live-same m m′ o o′ e = rw e refl
-
-pub live-at : (m nm : List ℕ) (o : ℕ) → part m o 11 ≡ nm → live m o ≡ live nm 0
-live-at m nm o e = live-same m nm o 0 (part-head m o 10 ∙ ap (λ (l : List ℕ). getD l 0 0) e)
 
 pub named-at : (m nm name : List ℕ) (o : ℕ) → part m o 11 ≡ nm → named m name o ≡ named nm name 0
 unfolding named

@@ -22,8 +22,8 @@ use Rattle.laws.specs.Addresses.{Shape}
 use Rattle.chains.specs.Chain.{pieces, length-pieces}
 use Rattle.demands.specs.Ledger.{Call, setting, extending, asking, File, noFile, Block, closed, listing, reading, writing, Ledger, Request, asks, Fate, denied, granted, reply, Sought, nowhere, slot, onSought, fileNamed, vacantSlot, slotForNew, holdsOpen, busy, activity, block, file, attributes, entryOf, tableOf, setBlock, setFile, withLast, withName, newFile, unusedSlots, addSector, padTo, openedToRead, openedToWrite, shutBlock, performed, called}
 use Rattle.demands.specs.Service.{flex, Machine, answers, next, entry, run, log}
-use Rattle.demands.specs.History.{then, history, scenes, hits, nameAfter, nameThen, Survives, sentBy, concat, front, content}
-use Rattle.demands.specs.Demands.{Start, begun, lastTrackOf, perTrackOf, told, Asks, Idle, nameOf, rest, counted, ReadBack, Kept, Created, Demand2}
+use Rattle.demands.specs.History.{then, history, scenes, Plain, hits, nameAfter, nameThen, Survives, sentBy, concat, front, content}
+use Rattle.demands.specs.Demands.{Start, begun, lastTrackOf, perTrackOf, told, past, Asks, Idle, nameOf, rest, counted, ReadBack, Kept, Created, Demand2}
 use Rattle.met.specs.Relation.{opens, writes, Writing, Keeps}
 use Rattle.met.specs.Quiet.{nobody, writes-opens}
 use Rattle.met.specs.Meets.{Sure, ledgerBy}
@@ -31,8 +31,8 @@ use Rattle.met.specs.Searches.{slot-same, seek-found}
 use Rattle.met.specs.Tidy.{slot-not}
 use Rattle.met.specs.Changes.{Changes, changes, rename-legal}
 use Rattle.met.specs.Forms.{table-is}
-use Rattle.met.specs.Runs.{Fine, Likewise, asked, beyond, likewise-asked, step, always, start-shape, start-fine}
-use Rattle.met.specs.Rests.{Rests, found, sceneOf, rests-like, rests}
+use Rattle.met.specs.Runs.{sceneOf, plain-code, Fine, Likewise, asked, beyond, likewise-asked, step, always, start-shape, start-fine}
+use Rattle.met.specs.Rests.{Rests, found, rests-like, rests}
 use Rattle.met.specs.Sent.{called-of, concat-last, content-none, content-some, Wrote, wrote-like, written}
 use Rattle.met.specs.Got.{at-start, reads}
 use Rattle.met.specs.Stays.{history-onward, slot-stood}
@@ -85,7 +85,7 @@ either-way false nm l = l
 module _ (M S : ℕ) (z : Shape M S) where
   -- an idle block takes the functions that want one
   fits-idle : (k act : ℕ) → k ≡ 1 → idle act ≡ true → fits k act ≡ true
-  unfolding fits
+  unfolding fits within
   fits-idle k act e h = rw e h
 
   -- ---- the name stays legal
@@ -112,12 +112,12 @@ module _ (M S : ℕ) (z : Shape M S) where
   name-ok x a g (extending n c) nm l = either-way (eqb (answers flex x (extending n c)) 0) nm l
   name-ok x a g (asking n b) nm l = rename-ok x a g n b nm l (hits 13 nm (sceneOf x a (asking n b))) refl
 
-  legal-then : (cs : List Call) (x : Machine) (a : Ledger) → Fine M S x a → (nm : List ℕ) → legal nm 0 ≡ true
+  legal-then : (cs : List Call) (x : Machine) (a : Ledger) → Fine M S x a → Plain (scenes M S a (log flex x cs)) → (nm : List ℕ) → legal nm 0 ≡ true
       → legal (nameThen nm (scenes M S a (log flex x cs))) 0 ≡ true
   unfolding log scenes entry nameThen
-  legal-then [] x a g nm l = l
-  legal-then (c ∷ cs) x a g nm l =
-      legal-then cs (next flex x c) (then M S a (entry flex x c)) (step M S z x a g c .fine) (nameAfter nm (sceneOf x a c)) (name-ok x a g c nm l)
+  legal-then [] x a g p nm l = l
+  legal-then (c ∷ cs) x a g p nm l =
+      legal-then cs (next flex x c) (then M S a (entry flex x c)) (step M S z x a g c .fine (p .0)) (p .1) (nameAfter nm (sceneOf x a c)) (name-ok x a g c nm l)
 
   -- ---- a call whose fate is known
   module _ (x : Machine) (a : Ledger) (g : Fine M S x a) (n b : ℕ) (hn : n < 8) where
@@ -153,10 +153,10 @@ module _ (M S : ℕ) (z : Shape M S) where
         let l = like-by x a g m b (k .block) _ opened in
         record {
           opens = answer-by x a g m b (k .block) _ opened;
-          reads = λ cs op. reads M S z cs (next flex x (asking m b)) a1 (step M S z x a g (asking m b) .fine) m s 0 (concat (f .body)) (k .block)
+          reads = λ cs pl op. reads M S z cs (next flex x (asking m b)) a1 (step M S z x a g (asking m b) .fine (plain-code x a m b 1 (k .function) refl)) m s 0 (concat (f .body)) (k .block)
               (at-start a1 m s (concat (f .body))
               (ap (λ (bs : List Block). getD bs m closed) (l .blocks) ∙ getD-set-same (a .blocks) m (reading s 0 0) closed (omega (arith, g .agrees .nb, k .block)))
-              (ap (λ (fs : List File). concat ((getD fs s noFile) .body)) (l .slots) ∙ ap (λ (y : File). concat (y .body)) (r .is))) op;
+              (ap (λ (fs : List File). concat ((getD fs s noFile) .body)) (l .slots) ∙ ap (λ (y : File). concat (y .body)) (r .is))) pl op;
         }
 
   -- ---- a file that was written is closed
@@ -256,25 +256,25 @@ module _ (M S : ℕ) (z : Shape M S) where
       kept ok =
           let x1 = next flex x (asking n b) in
           let h1 = then M S a (entry flex x (asking n b)) in
-          let g1 = step M S z x a g (asking n b) .fine in
+          let g1 = step M S z x a g (asking n b) .fine (plain-code x a n b 4 (k .function) refl) in
           let sh = shut-fate in
           let l = like-by x a g n b hn _ close-fate in
           let r1 = rests-like (ledgerBy a (shutBlock M S a n (asks a n b) (writing s (w .left)))) h1 l s (sh .f) (sh .at-rest) in
           record {
-            numbers = λ cs sv.
+            numbers = λ cs pl sv.
                 let ss = scenes M S h1 (log flex x1 cs) in
-                let rs = rests M S z cs x1 h1 g1 s (sh .f) r1 (subst (λ (y : List ℕ). Survives y ss) (sym (sh .name)) sv) in
-                let g2 = always M S z cs x1 h1 g1 .0 in
+                let rs = rests M S z cs x1 h1 g1 s (sh .f) r1 pl (subst (λ (y : List ℕ). Survives y ss) (sym (sh .name)) sv) in
+                let g2 = always M S z cs x1 h1 g1 pl .0 in
                 sym (g2 .agrees .holds s (omega (arith, rs .low, g2 .agrees .ns)) .recs) ∙ ap (λ (f : File). f .recs) (rs .is) ∙ sh .recs;
-            back = λ cs sv m c ka i e.
+            back = λ cs pl sv m c ka i e.
                 let ss = scenes M S h1 (log flex x1 cs) in
                 let nm′ = nameThen nm ss in
                 let fn : nameThen (sh .f .name) ss ≡ nm′ = ap (λ (y : List ℕ). nameThen y ss) (sh .name) in
-                let rs = rests M S z cs x1 h1 g1 s (sh .f) r1 (subst (λ (y : List ℕ). Survives y ss) (sym (sh .name)) sv) in
+                let rs = rests M S z cs x1 h1 g1 s (sh .f) r1 pl (subst (λ (y : List ℕ). Survives y ss) (sym (sh .name)) sv) in
                 let rs2 : Rests (history M S h1 (log flex x1 cs)) s (withName (sh .f) nm′) =
                 subst (λ (y : List ℕ). Rests (history M S h1 (log flex x1 cs)) s (withName (sh .f) y)) fn rs in
                 subst (λ (l : List ℕ). ReadBack flex M S (run flex x1 cs) (history M S h1 (log flex x1 cs)) l m c) (sh .bytes)
-                (read-back (run flex x1 cs) (history M S h1 (log flex x1 cs)) (always M S z cs x1 h1 g1 .0) s (withName (sh .f) nm′) rs2 (legal-then cs x1 h1 g1 nm ok) (sh .mode) m c ka i e);
+                (read-back (run flex x1 cs) (history M S h1 (log flex x1 cs)) (always M S z cs x1 h1 g1 pl .0) s (withName (sh .f) nm′) rs2 (legal-then cs x1 h1 g1 pl nm ok) (sh .mode) m c ka i e);
           }
 
   -- ---- a new file: the call is granted the ledger a′, where block n writes the slot s
@@ -305,20 +305,20 @@ module _ (M S : ℕ) (z : Shape M S) where
     pub created : Created flex M S x a n s b
     created =
         let x1 = next flex x (asking n b) in
-        let g1 = step M S z x a g (asking n b) .fine in
+        let g1 = step M S z x a g (asking n b) .fine (plain-code x a n b 2 (k .function) refl) in
         let l = like-by x a g n b (k .block) _ made in
         let w0 : Wrote a2 n s (nameOf a n) [] = wrote-like a′ a2 l n s (nameOf a n) [] starts in
         let hs : s < length (slotsOf (a2 .dir)) = wrt x1 a2 g1 [] w0 .slot in
         let at : file a2 s .at ≡ getD (slotsOf (a2 .dir)) s 0 = g1 .agrees .holds s hs .at in
         record {
           opens = answer-by x a g n b (k .block) _ made;
-          writes = λ cs op.
-              let wn = written M S z cs x1 a2 g1 n s (nameOf a n) [] (k .block) w0 op in
-              let g2 = always M S z cs x1 a2 g1 .0 in
+          writes = λ cs pl op.
+              let wn = written M S z cs x1 a2 g1 n s (nameOf a n) [] (k .block) w0 pl op in
+              let g2 = always M S z cs x1 a2 g1 pl .0 in
               let x2 = run flex x1 cs in
               let h2 = history M S a2 (log flex x1 cs) in
               let sent = sentBy n (scenes M S a2 (log flex x1 cs)) in
-              let stood = slot-stood S a2 h2 (history-onward M S z cs x1 a2 g1) s hs .1 in
+              let stood = slot-stood S a2 h2 (history-onward M S z cs x1 a2 g1 pl) s hs .1 in
               record {
                 accepts = wn .1;
                 size = ap (sizeAt (x2 .img)) (at ∙ sym stood) ∙ size-is x2 h2 g2 sent (wn .0);
@@ -329,7 +329,7 @@ module _ (M S : ℕ) (z : Shape M S) where
         }
 
   fits-two : (act : ℕ) → idle act ≡ true → fits 2 act ≡ true
-  unfolding fits
+  unfolding fits within
   fits-two act h = h
 
   -- a block that writes the new file in slot s has sent nothing yet
@@ -388,16 +388,16 @@ module _ (M S : ℕ) (z : Shape M S) where
 
 -- ---- the demand
 
-module _ (x : Machine) (st : Start x) (cs : List Call) where
+module _ (x : Machine) (st : Start x) (cs : List Call) (pl : Plain (past flex x cs)) where
   pub fine : Fine (lastTrackOf x) (perTrackOf x) (run flex x cs) (told flex x cs)
-  fine = always (lastTrackOf x) (perTrackOf x) (start-shape x st) cs x (begun x) (start-fine x st) .0
+  fine = always (lastTrackOf x) (perTrackOf x) (start-shape x st) cs x (begun x) (start-fine x st) pl .0
 
   pub table-here : run flex x cs .tab ≡ tableOf (told flex x cs)
   table-here = table-is (run flex x cs .tab) (told flex x cs .fcbs) (fine .formed) (fine .agrees .tlen)
 
 pub demand2 : Demand2 flex
-demand2 = record {
-  presets = λ x st cs n i v. ap (λ (t : List ℕ). flex .preset t n i v) (table-here x st cs);
-  creates = λ x st cs n s b k i ok none space.
-      creates-new (lastTrackOf x) (perTrackOf x) (start-shape x st) (run flex x cs) (told flex x cs) (fine x st cs) n b k i ok none s space;
+demand2 x st cs pl = record {
+  presets = λ n i v. ap (λ (t : List ℕ). flex .preset t n i v) (table-here x st cs pl);
+  creates = λ n s b k i ok none space.
+      creates-new (lastTrackOf x) (perTrackOf x) (start-shape x st) (run flex x cs) (told flex x cs) (fine x st cs pl) n b k i ok none s space;
 }

@@ -24,11 +24,10 @@ use Rattle.met.specs.Searches.{not-busy, not-open}
 use Rattle.met.specs.Tidy.{nameOf}
 use Rattle.met.specs.Changes.{Change, Changes, changes, other-block, Slot, kept, own, fresh, lost, moved, slot-fate, open-live}
 use Rattle.demands.specs.Service.{flex, Machine, answers, next, entry, log}
-use Rattle.demands.specs.History.{then, history, scenes, calls, Only, sentIn, sentBy, unfinished, room, Accepts, concat, front, content}
+use Rattle.demands.specs.History.{then, history, scenes, calls, Plain, Only, sentIn, sentBy, unfinished, room, Accepts, concat, front, content}
 use Rattle.demands.specs.Demands.{counted}
 use Rattle.met.specs.Meets.{Sure, ledgerBy}
-use Rattle.met.specs.Runs.{Fine, Likewise, asks-is, asked, beyond, likewise-set, likewise-extend, likewise-refused, likewise-asked, step}
-use Rattle.met.specs.Rests.{sceneOf}
+use Rattle.met.specs.Runs.{sceneOf, Fine, Likewise, asks-is, asked, beyond, likewise-set, likewise-extend, likewise-refused, likewise-asked, step}
 
 -- ---- a request that passes the shared checks
 
@@ -375,16 +374,16 @@ module _ (M S : ℕ) (z : Shape M S) where
 
   -- WRITING: whatever else is called, the file has what was sent to it, and while there is room every byte is accepted
   pub written : (cs : List Call) (x : Machine) (a : Ledger) → Fine M S x a → (n s : ℕ) (nm sent : List ℕ) → n < 8 → Wrote a n s nm sent
-      → Only n (0 ∷ []) (scenes M S a (log flex x cs))
+      → Plain (scenes M S a (log flex x cs)) → Only n (0 ∷ []) (scenes M S a (log flex x cs))
       → Wrote (history M S a (log flex x cs)) n s nm (sent ++ sentBy n (scenes M S a (log flex x cs))) × Accepts n (scenes M S a (log flex x cs))
   unfolding log history scenes entry sentBy
-  written [] x a g n s nm sent hn w op = (subst (λ (l : List ℕ). Wrote a n s nm l) (sym (append-nil sent)) w, tt)
-  written (c ∷ cs) x a g n s nm sent hn w op =
+  written [] x a g n s nm sent hn w p op = (subst (λ (l : List ℕ). Wrote a n s nm l) (sym (append-nil sent)) w, tt)
+  written (c ∷ cs) x a g n s nm sent hn w p op =
       let sc = sceneOf x a c in
       let a′ = then M S a (entry flex x c) in
       let ss = scenes M S a′ (log flex (next flex x c) cs) in
       let w1 = wrote-one x a g n s nm sent hn w c (op .0, tt) in
-      let w2 = written cs (next flex x c) a′ (step M S z x a g c .fine) n s nm (sent ++ sentIn n sc) hn (w1 .0) (op .1) in (
+      let w2 = written cs (next flex x c) a′ (step M S z x a g c .fine (p .0)) n s nm (sent ++ sentIn n sc) hn (w1 .0) (p .1) (op .1) in (
         subst (λ (l : List ℕ). Wrote (history M S a′ (log flex (next flex x c) cs)) n s nm l) (append-assoc sent (sentIn n sc) (sentBy n ss)) (w2 .0),
         (w1 .1, w2 .1),
       )

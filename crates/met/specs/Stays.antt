@@ -12,7 +12,7 @@ use lib.Dec.{eqb, ltb}
 use borrow.Author.Tests.{eq-eqb, ne-eqb, lt-ltb, le-leb, ltb-true}
 use Rattle.rules.specs.Bytes.{pick, within, wordAt, part, one, two}
 use Rattle.rules.specs.Stores.{Put, put, puts}
-use Rattle.rules.specs.Image.{index, isSector}
+use Rattle.rules.specs.Image.{index, isSector, adr}
 use Rattle.rules.specs.Directory.{live, slotsOf, member, placeOf, lastOf}
 use Rattle.rules.specs.Block.{idle}
 use Rattle.rules.specs.Call.{served, fits}
@@ -21,14 +21,14 @@ use Rattle.laws.specs.Bytes.{part-at, part-is, length-part, length-one}
 use Rattle.laws.specs.Stores.{length-puts, puts-append, puts-at}
 use Rattle.laws.specs.Addresses.{Shape}
 use Rattle.laws.specs.Slots.{length-slots}
-use Rattle.chains.specs.Addresses.{adr, absurd-bool}
-use Rattle.chains.specs.Tally.{tally, tally-append, eq1-same, eq1-ne, tally-head}
+use Rattle.chains.specs.Addresses.{absurd-bool}
+use Rattle.chains.specs.Tally.{tally, tally-append, eq1-same, eq1-ne, in-member}
 use Rattle.chains.specs.Chain.{pieces, pieces-at, length-pieces, seg-at, seat, last-getD, tally-getD}
 use Rattle.chains.specs.Directory.{slot-at, slots-append}
 use Rattle.chains.specs.Walk.{chainAt}
 use Rattle.demands.specs.Ledger.{Call, setting, extending, asking, File, Block, listing, Ledger, fcb, file, block, asks, activity, entryOf, imageOf, Fate, denied, granted, ended, reply, setBlock, shownNext, fetched, performed, called}
-use Rattle.demands.specs.Service.{flex, Machine, answers, next, entry, run, log}
-use Rattle.demands.specs.History.{then, history}
+use Rattle.demands.specs.Service.{flex, Machine, answers, next, entry, log}
+use Rattle.demands.specs.History.{then, history, scenes, raw, Plain}
 use Rattle.demands.specs.Demands.{Asks, Idle, inSlot, inLink}
 use Rattle.met.specs.Relation.{Agrees, all-le, all-low}
 use Rattle.met.specs.Meets.{ledgerBy, putsBy}
@@ -36,21 +36,8 @@ use Rattle.met.specs.Searches.{part-part}
 use Rattle.met.specs.Picture.{link-is, entry-is, sector-is, image-is}
 use Rattle.met.specs.Changes.{Changes, changes, Onward, onward-same, onward-then, onward, Freed, same, fewer, more, freed}
 use Rattle.met.specs.Survey.{file-back}
-use Rattle.met.specs.Runs.{Fine, Likewise, asked, beyond, block-after, likewise-set, likewise-extend, likewise-refused, likewise-asked, step}
+use Rattle.met.specs.Runs.{sceneOf, Fine, Likewise, asked, beyond, block-after, likewise-set, likewise-extend, likewise-refused, likewise-asked, step}
 use Rattle.met.specs.Sent.{called-of}
-
--- ---- lists of calls, one call longer
-
-pub run-more : (cs : List Call) (x : Machine) (c : Call) → run flex x (cs ++ c ∷ []) ≡ next flex (run flex x cs) c
-unfolding run
-run-more [] x c = refl
-run-more (d ∷ cs) x c = run-more cs (next flex x d) c
-
-pub history-more : (M S : ℕ) (cs : List Call) (x : Machine) (a : Ledger) (c : Call)
-    → history M S a (log flex x (cs ++ c ∷ [])) ≡ then M S (history M S a (log flex x cs)) (entry flex (run flex x cs) c)
-unfolding run log history
-history-more M S [] x a c = refl
-history-more M S (d ∷ cs) x a c = history-more M S cs (next flex x d) (then M S a (entry flex x d)) c
 
 -- ---- the bytes that a free sector has
 
@@ -86,15 +73,6 @@ lookup-fewer : (k j : ℕ) (ks : List ℕ) (vs : List (List ℕ)) → length vs 
 unfolding lookup
 lookup-fewer k j ks [] e ne = absurd (omega arith)
 lookup-fewer k j ks (v ∷ vs) e ne = rw (ne-eqb j k ne) refl
-
-member-tally : (k : ℕ) (ks : List ℕ) → member k ks ≡ true → 1 ≤ tally k ks
-unfolding member
-member-tally k [] h = absurd (absurd-bool h refl)
-member-tally k (j ∷ ks) h = go (λ t. member-tally k ks t) (ℕ-discrete j k)
-  where
-    go : (member k ks ≡ true → 1 ≤ tally k ks) → Dec (j ≡ k) → 1 ≤ tally k (j ∷ ks)
-    go ih (yes e) = subst (λ (x : ℕ). 1 ≤ tally k (x ∷ ks)) (sym e) (tally-head k ks)
-    go ih (no e) = omega (arith, ih (rw (ne-eqb j k e) at h))
 
 -- a free sector that is free afterwards has the bytes that it had
 freed-same : (a : Ledger) → length (a .spare) ≡ length (a .free) → ((k : ℕ) → tally k (a .free) ≤ 1) → (fr : List ℕ) (vs : List (List ℕ)) → Freed a fr vs
@@ -132,11 +110,12 @@ module _ (M S : ℕ) (z : Shape M S) where
           let l = likewise-refused M S a n b _ _ q in
           onward-same S a _ (l .base) (l .dir) (l .heads)
 
-  pub history-onward : (cs : List Call) (x : Machine) (a : Ledger) → Fine M S x a → Onward S a (history M S a (log flex x cs))
-  unfolding log history
-  history-onward [] x a g = onward-same S a a refl refl refl
-  history-onward (c ∷ cs) x a g =
-      onward-then S a _ _ (then-onward x a g c) (history-onward cs (next flex x c) (then M S a (entry flex x c)) (step M S z x a g c .fine))
+  pub history-onward : (cs : List Call) (x : Machine) (a : Ledger) → Fine M S x a → Plain (scenes M S a (log flex x cs))
+      → Onward S a (history M S a (log flex x cs))
+  unfolding log history scenes entry
+  history-onward [] x a g p = onward-same S a a refl refl refl
+  history-onward (c ∷ cs) x a g p =
+      onward-then S a _ _ (then-onward x a g c) (history-onward cs (next flex x c) (then M S a (entry flex x c)) (step M S z x a g c .fine (p .0)) (p .1))
 
   module _ (y : Machine) (a : Ledger) (g : Fine M S y a) where
     -- ---- a free sector stays while it is free
@@ -165,13 +144,13 @@ module _ (M S : ℕ) (z : Shape M S) where
             let q : answers flex y (asking n b) ≢ 0 = λ e. omega (arith, e, beyond M S z y a g n b (omega arith)) in
             freed-like (asking n b) a (likewise-refused M S a n b _ _ q) same
 
-    pub free-stays : (c : Call) (k : ℕ) → member k (a .free) ≡ true → member k ((then M S a (entry flex y c)) .free) ≡ true
+    pub free-stays : (c : Call) → raw (sceneOf y a c) ≡ false → (k : ℕ) → member k (a .free) ≡ true → member k ((then M S a (entry flex y c)) .free) ≡ true
         → part (next flex y c .img) (256 * k + 2) 254 ≡ part (y .img) (256 * k + 2) 254
-    free-stays c k h h′ =
+    free-stays c p k h h′ =
         let a′ = then M S a (entry flex y c) in
-        let g′ = step M S z y a g c .fine in
-        let t = member-tally k (a .free) h in
-        let t′ = member-tally k (a′ .free) h′ in
+        let g′ = step M S z y a g c .fine p in
+        let t = in-member k (a .free) h in
+        let t′ = in-member k (a′ .free) h′ in
         sym (ap (lookup k (a′ .free)) (g′ .agrees .spare) ∙ lookup-piece (next flex y c .img) (a′ .free) k t′)
         ∙ freed-same a (ap length (g .agrees .spare) ∙ length-pieces 2 254 (y .img) (a .free))
         (λ j. omega (arith, all-le M S z (y .img) (y .tab) a (g .agrees) j)) (a′ .free) (a′ .spare) (freed-then c) k t t′
@@ -193,7 +172,7 @@ module _ (M S : ℕ) (z : Shape M S) where
           (omega (arith, length-puts ps (fcb a n) 0, form-long)) (omega (arith, length-one 0)))
 
     fits-seven : fits 7 16 ≡ true
-    unfolding fits
+    unfolding fits within
     fits-seven = refl
 
     pub shows : (n b p : ℕ) → Asks a n 7 → block a n ≡ listing p → p < length (a .slots)
@@ -211,7 +190,7 @@ module _ (M S : ℕ) (z : Shape M S) where
         )
 
     fits-nine : (act : ℕ) → idle act ≡ true → fits 9 act ≡ true
-    unfolding fits
+    unfolding fits within
     fits-nine act h = h
 
     pub fetches : (n b : ℕ) → Asks a n 9 → Idle a n → isSector M S (asks a n b .position) ≡ true
@@ -329,7 +308,7 @@ module _ (M S : ℕ) (z : Shape M S) (img tab img′ tab′ : List ℕ) (a a′ 
       go zero e =
           either (ltb p (256 * S)) (member k (a .dir)) at
           (λ u. let l = ltb-true p (256 * S) u in r′ .aside p l (λ x y. not-within 541 546 p outside x (omega arith)) (none l) ∙ ap (λ (m : List ℕ). getD m p 0) (w .base ∙ base))
-          (λ u. absurd (omega (arith, e, member-tally k (a .dir) u)))
+          (λ u. absurd (omega (arith, e, in-member k (a .dir) u)))
         where
           none : p < 256 * S → tally k (a′ .dir) ≡ 0
           none l = by (tally k (w .ks)) refl

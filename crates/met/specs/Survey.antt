@@ -3,29 +3,29 @@ use mathlib.Core.Path.{_≡_, refl, sym, ap, ap₂, _∙_, subst}
 use mathlib.Core.Logic.{_≢_}
 use mathlib.Core.Bool.{Bool, true, false}
 use mathlib.Core.List.{List, [], _∷_, _++_}
-use Prim.Native.Nat.{ℕ, zero, suc, _+_, _*_, _≤_, _<_}
+use Prim.Native.Nat.{ℕ, zero, suc, _+_, _*_, _<_}
 use native.Mathlib.Omega.{arith}
 use lib.ListN.{length, getD, replicate, getD-replicate}
 use lib.Seq.{ext-getD}
-use Rattle.rules.specs.Bytes.{pick, wordAt, part}
-use Rattle.rules.specs.Image.{firstFree, freeCount}
-use Rattle.rules.specs.Directory.{live, directory, slots, slotsOf, startAt, endAt, sizeAt}
-use Rattle.rules.specs.Census.{chainRight, numbersFrom, freeRight, fileRight, filesRight, fileNumbers, fileOwners, filesNumbers, filesOwners, listed, directoryOwner, owners, eachOnce}
+use Rattle.rules.specs.Bytes.{pick, wordAt, part, flat}
+use Rattle.rules.specs.Directory.{live, directory, slots, slotsOf}
+use Rattle.rules.specs.Repair.{allOf}
+use Rattle.rules.specs.Census.{chainRight, freeRight, fileOwners, filesOwners, listed, directoryOwner, owners, eachOnce}
 use Rattle.laws.specs.Bytes.{length-part}
 use Rattle.laws.specs.Small.{Small}
 use Rattle.laws.specs.Surveys.{Sane}
-use Rattle.chains.specs.Tally.{tally, tally-append, flat}
-use Rattle.laws.specs.Tests.{both}
+use Rattle.laws.specs.Slots.{live-at}
 use Rattle.laws.specs.Addresses.{Shape}
+use Rattle.chains.specs.Once.{Once}
 use Rattle.chains.specs.Addresses.{Sized}
 use Rattle.chains.specs.Chain.{Chain, pieces, contents}
 use Rattle.chains.specs.Directory.{Listing, directory-is, directory-sound}
-use Rattle.chains.specs.Walk.{chainAt, length-walk, numbers, numbers-append, length-numbers, numbers-walk, dataOf, numbers-data, tally-data, data-behind, AllData, chain-sound, chain-complete, once-sound, once-complete}
-use Rattle.demands.specs.Diskette.{sectorsAt, fileAt, filesAt, ledgerOf, ledgerNumbers, ownersFrom, ledgerOwners}
+use Rattle.chains.specs.Walk.{chainAt, length-walk, numbers, length-numbers, dataOf, numbers-data, chain-complete, once-complete}
+use Rattle.chains.specs.Files.{sectorsAt, sectorsIn, listed-had, files-right, right-files, record-at, sound-at, free-sound, sane-once}
+use Rattle.demands.specs.Diskette.{fileAt, filesAt, ledgerOf, ledgerNumbers, ownersFrom, ledgerOwners}
 use Rattle.demands.specs.Ledger.{File, noFile, Block, closed, Ledger, secsOf}
 use Rattle.met.specs.Relation.{tb, writes, Holds, Keeps, Agrees}
 use Rattle.met.specs.Sectors.{free-data, free-count, secs-data, secs-count}
-use Rattle.met.specs.Searches.{live-at}
 use Rattle.met.specs.Tidy.{nameOf, Tidy, twins-sound, twins-complete}
 
 -- ---- the files of an image
@@ -43,29 +43,17 @@ files-at S img (o ∷ os) (suc i) h = files-at S img os i (omega arith)
 
 -- ---- what the census lists
 
-file-numbers : (S : ℕ) (img : List ℕ) (o : ℕ) → fileNumbers img S o ≡ numbers S (sectorsAt S img o)
-unfolding fileNumbers
-file-numbers S img o = go (live img o)
-  where
-    go : (u : Bool) → pick u (numbersFrom img S (wordAt img (o + 17)) (wordAt img (o + 13))) [] ≡ numbers S (pick u (chainAt S img (o + 13)) [])
-    go false = refl
-    go true =
-        ap (λ (x : ℕ). numbersFrom img S (wordAt img x) (wordAt img (o + 13))) (omega arith) ∙ numbers-walk S img (wordAt img (o + 13 + 4)) (wordAt img (o + 13))
-
-files-numbers : (S : ℕ) (img os : List ℕ) → filesNumbers img S os ≡ numbers S (flat secsOf (filesAt S img os))
-unfolding filesNumbers filesAt fileAt
-files-numbers S img [] = refl
-files-numbers S img (o ∷ os) =
-    ap₂ (λ (x y : List ℕ). x ++ y) (file-numbers S img o) (files-numbers S img os) ∙ sym (numbers-append S (sectorsAt S img o) (flat secsOf (filesAt S img os)))
+-- the sectors of the files, as the census walks them
+secs-files : (S : ℕ) (img os : List ℕ) → allOf (sectorsIn S img os) ≡ flat secsOf (filesAt S img os)
+unfolding filesAt fileAt
+secs-files S img [] = refl
+secs-files S img (o ∷ os) = ap (λ (l : List ℕ). sectorsAt S img o ++ l) (secs-files S img os)
 
 pub listed-is : (M S : ℕ) (img tab : List ℕ) → listed img M S ≡ ledgerNumbers S (ledgerOf M S img tab)
-unfolding listed ledgerOf
+unfolding ledgerOf
 listed-is M S img tab =
-    let ds = dataOf S (directory img M S) in
-    let fs = flat secsOf (filesAt S img (slots img M S)) in
-    ap₂ (λ (x y : List ℕ). x ++ y) (numbers-walk S img (freeCount img) (firstFree img))
-    (ap₂ (λ (x y : List ℕ). x ++ y) (numbers-data S (directory img M S)) (files-numbers S img (slots img M S)) ∙ sym (numbers-append S ds fs))
-    ∙ sym (numbers-append S (chainAt S img 541) (ds ++ fs))
+    listed-had M S img
+    ∙ ap (λ (fs : List ℕ). numbers S (chainAt S img 541 ++ (dataOf S (directory img M S) ++ fs))) (secs-files S img (slots img M S))
 
 file-owners : (S : ℕ) (img : List ℕ) (o owner : ℕ) → fileOwners img o owner ≡ replicate (length (sectorsAt S img o)) owner
 unfolding fileOwners
@@ -92,89 +80,12 @@ owners-is M S img tab =
 
 -- ---- SOUND: an image that the census accepts, every block closed
 
-files-right : (M S : ℕ) (img os : List ℕ) → filesRight img M S os ≡ true → (i : ℕ) → i < length os → live img (getD os i 0) ≡ true
-    → chainRight img M S (startAt img (getD os i 0)) (endAt img (getD os i 0)) (sizeAt img (getD os i 0)) ≡ true
-unfolding filesRight fileRight
-files-right M S img [] h i b v = absurd (omega arith)
-files-right M S img (o ∷ os) h zero b v =
-    let p : pick (live img o) (chainRight img M S (startAt img o) (endAt img o) (sizeAt img o)) true ≡ true =
-    both (fileRight img M S o) (filesRight img M S os) h .0 in
-    rw v at p
-files-right M S img (o ∷ os) h (suc i) b v = files-right M S img os (both (fileRight img M S o) (filesRight img M S os) h .1) i (omega arith) v
-
-right-files : (M S : ℕ) (img os : List ℕ) → ((i : ℕ) → i < length os → live img (getD os i 0) ≡ true
-    → chainRight img M S (startAt img (getD os i 0)) (endAt img (getD os i 0)) (sizeAt img (getD os i 0)) ≡ true) → filesRight img M S os ≡ true
-unfolding filesRight fileRight
-right-files M S img [] h = refl
-right-files M S img (o ∷ os) h = rw (go (live img o) refl) (right-files M S img os (λ i b. h (suc i) (omega arith)))
-  where
-    go : (u : Bool) → live img o ≡ u → pick u (chainRight img M S (startAt img o) (endAt img o) (sizeAt img o)) true ≡ true
-    go false e = refl
-    go true e = h 0 (omega arith) e
-
--- the chain of a slot, as the census and as the relation name its record
-record-at : (M S : ℕ) (img : List ℕ) (o : ℕ)
-    → chainRight img M S (startAt img o) (endAt img o) (sizeAt img o) ≡ chainRight img M S (wordAt img (o + 13)) (wordAt img (o + 13 + 2)) (wordAt img (o + 13 + 4))
-record-at M S img o = ap₂ (λ (x y : ℕ). chainRight img M S (wordAt img (o + 13)) (wordAt img x) (wordAt img y)) (omega arith) (omega arith)
-
-flat-data : (M S : ℕ) (fs : List File) → ((i : ℕ) → i < length fs → AllData M S (secsOf (getD fs i noFile))) → AllData M S (flat secsOf fs)
-flat-data M S [] g x t = absurd (omega arith)
-flat-data M S (f ∷ fs) g x t = go (tally x (f .secs)) refl (flat-data M S fs (λ i b. g (suc i) (omega arith)) x)
-  where
-    go : (c : ℕ) → tally x (f .secs) ≡ c → (1 ≤ tally x (flat secsOf fs) → (S ≤ x) × (x < (M + 1) * S)) → (S ≤ x) × (x < (M + 1) * S)
-    go zero e ih = ih (omega (arith, t, e, tally-append x (f .secs) (flat secsOf fs)))
-    go (suc c) e ih = g 0 (omega arith) x (omega (arith, e))
-
 module _ (M S : ℕ) (z : Shape M S) (img : List ℕ) (h : Sized M S img) (small : Small img) (sane : Sane img M S) where
   abbrev ds : List ℕ
   ds = directory img M S
 
   dir : Listing M S ds
   dir = directory-sound M S z img (small .at) (sane .right) .0
-
-  file-sound : (i : ℕ) → i < length (slotsOf ds) → live img (getD (slotsOf ds) i 0) ≡ true
-      → Chain S img (getD (slotsOf ds) i 0 + 13) (chainAt S img (getD (slotsOf ds) i 0 + 13)) × AllData M S (chainAt S img (getD (slotsOf ds) i 0 + 13))
-  file-sound i b v =
-      chain-sound M S z img small (getD (slotsOf ds) i 0 + 13)
-      (sym (record-at M S img (getD (slotsOf ds) i 0)) ∙ files-right M S img (slotsOf ds) (sane .files) i b v)
-
-  free-sound : Chain S img 541 (chainAt S img 541) × AllData M S (chainAt S img 541)
-  unfolding freeRight
-  free-sound = chain-sound M S z img small 541 (free-right (sane .free))
-    where
-      free-right : freeRight img M S ≡ true → chainRight img M S (wordAt img 541) (wordAt img (541 + 2)) (wordAt img (541 + 4)) ≡ true
-      free-right q = q
-
-  secs-all : (i : ℕ) → i < length (slotsOf ds) → AllData M S (sectorsAt S img (getD (slotsOf ds) i 0))
-  secs-all i b = go (live img (getD (slotsOf ds) i 0)) refl
-    where
-      go : (u : Bool) → live img (getD (slotsOf ds) i 0) ≡ u → AllData M S (pick u (chainAt S img (getD (slotsOf ds) i 0 + 13)) [])
-      go false e x t = absurd (omega arith)
-      go true e x t = file-sound i b e .1 x t
-
-  all-data : AllData M S (chainAt S img 541 ++ (dataOf S ds ++ flat secsOf (filesAt S img (slotsOf ds))))
-  unfolding fileAt
-  all-data x t = go (tally x (chainAt S img 541)) refl (tally x (dataOf S ds)) refl
-    where
-      each : (i : ℕ) → i < length (filesAt S img (slotsOf ds)) → AllData M S (secsOf (getD (filesAt S img (slotsOf ds)) i noFile))
-      each i b =
-          let c : i < length (slotsOf ds) = omega (arith, length-files S img (slotsOf ds)) in
-          subst (λ (f : File). AllData M S (secsOf f)) (sym (files-at S img (slotsOf ds) i c)) (secs-all i c)
-
-      go : (c : ℕ) → tally x (chainAt S img 541) ≡ c → (b : ℕ) → tally x (dataOf S ds) ≡ b → (S ≤ x) × (x < (M + 1) * S)
-      go zero e zero f =
-          flat-data M S (filesAt S img (slotsOf ds)) each x
-          (omega (
-            arith,
-            t,
-            e,
-            f,
-            tally-append x (chainAt S img 541) (dataOf S ds ++ flat secsOf (filesAt S img (slotsOf ds))),
-            tally-append x (dataOf S ds) (flat secsOf (filesAt S img (slotsOf ds))),
-          ))
-      go zero e (suc b) f =
-          let l = data-behind S ds x (omega (arith, f)) in (l, dir .high x (omega (arith, f, tally-data S ds x l)))
-      go (suc c) e b f = free-sound .1 x (omega (arith, e))
 
   holds-sound : (o : ℕ) → (live img o ≡ true → Chain S img (o + 13) (chainAt S img (o + 13))) → Holds S img o (fileAt S img o)
   unfolding fileAt
@@ -203,12 +114,11 @@ module _ (M S : ℕ) (z : Shape M S) (img : List ℕ) (h : Sized M S img) (small
         heads = refl;
         ns = length-files S img (slotsOf ds);
         nb = refl;
-        free = free-sound .0;
-        holds = λ i b. subst (λ (f : File). Holds S img (getD (slotsOf ds) i 0) f) (sym (files-at S img (slotsOf ds) i b)) (holds-sound (getD (slotsOf ds) i 0) (λ v. file-sound i b v .0));
+        free = free-sound M S z img small sane .0;
+        holds = λ i b. subst (λ (f : File). Holds S img (getD (slotsOf ds) i 0) f) (sym (files-at S img (slotsOf ds) i b)) (holds-sound (getD (slotsOf ds) i 0) (λ v. sound-at M S z img small (getD (slotsOf ds) i 0) (files-right M S img (slotsOf ds) (sane .files) i b v) .0));
         keeps = λ n b. subst (λ (x : Block). Keeps S (slotsOf ds) tab n (filesAt S img (slotsOf ds)) x) (sym (closed-at n b)) (shut n b);
         alone = λ n n′ ne hn hn′ w. absurd (omega (arith, ap writes (closed-at n hn)));
-        once = once-sound M S (chainAt S img 541 ++ (dataOf S ds ++ flat secsOf (filesAt S img (slotsOf ds)))) all-data
-            (subst (λ (l : List ℕ). eachOnce (M * S) l ≡ true) (listed-here) (sane .once));
+        once = subst (λ (fs : List ℕ). Once S ((M + 1) * S) (chainAt S img 541 ++ (dataOf S ds ++ fs))) (secs-files S img (slotsOf ds)) (sane-once M S z img small sane);
         spare = refl;
         small = λ p g. small .at p;
         len = refl;
@@ -217,9 +127,6 @@ module _ (M S : ℕ) (z : Shape M S) (img : List ℕ) (h : Sized M S img) (small
     where
       closed-at : (n : ℕ) → n < 8 → getD (replicate 8 closed) n closed ≡ closed
       closed-at n b = getD-replicate {A = Block} 8 n closed closed b
-
-      listed-here : listed img M S ≡ numbers S (chainAt S img 541 ++ (dataOf S ds ++ flat secsOf (filesAt S img (slotsOf ds))))
-      listed-here = listed-is M S img tab
 
   -- names
   name-at : (i : ℕ) → i < length (slotsOf ds) → nameOf (filesAt S img (slotsOf ds)) i ≡ part img (getD (slotsOf ds) i 0) 11

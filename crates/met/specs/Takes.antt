@@ -2,24 +2,26 @@
 use mathlib.Core.Path.{_≡_, refl, sym, ap, ap₂, _∙_, subst}
 use mathlib.Core.Logic.{_≢_}
 use mathlib.Core.List.{List, [], _∷_, _++_}
-use Prim.Native.Nat.{ℕ, zero, suc, _+_, _-_, _*_, _/_, _%_, _≤_, _<_}
+use Prim.Native.Nat.{ℕ, zero, suc, _+_, _*_, _/_, _%_, _≤_, _<_}
 use native.Mathlib.Omega.{arith}
 use native.Mathlib.Decide.{ℕ-discrete}
 use lib.ListN.{length, getD, drop}
 use lib.Seq.{getD-set-same}
 use lib.Dec.{eqb}
 use borrow.Author.Tests.{ne-eqb, eq-eqb}
+use Rattle.rules.specs.Image.{adr}
 use Rattle.rules.specs.Bytes.{pick, wordAt, one, two, six, zeros}
 use Rattle.rules.specs.Stores.{Store, store, stored, Put, put, puts}
-use Rattle.rules.specs.Directory.{slotsOf, lastOf}
+use Rattle.rules.specs.Directory.{slotsOf, lastOf, first}
 use Rattle.rules.specs.Outcome.{andThen}
 use Rattle.rules.specs.Transfer.{fresh, takeStores, takePuts, takeFor, takeSector, sent, fill, writing as writeByte}
 use Rattle.laws.specs.Bytes.{word-put, part-is, part-same, length-zeros, zeros-at, length-two, length-fresh, fresh-zero}
 use Rattle.laws.specs.Small.{small-two, small-six, small-fresh}
-use Rattle.chains.specs.Tally.{tally, tally-append, tally-head, apart, eq1-ne}
+use Rattle.chains.specs.Tally.{tally, tally-append, tally-head, apart}
 use Rattle.laws.specs.Addresses.{Shape}
-use Rattle.chains.specs.Addresses.{adr, adr-zero, absurd-bool}
-use Rattle.chains.specs.Chain.{first, Chain, tally-last, last-snoc, pieces-same, pieces-append}
+use Rattle.chains.specs.Addresses.{adr-zero, absurd-bool}
+use Rattle.chains.specs.Chain.{Chain, tally-last, last-snoc, pieces-same, pieces-append}
+use Rattle.chains.specs.Data.{AllData, data-one, data-append, sector-small, sector-index, sector-data, last-data, last-none, first-none, index-last, last-fit, first-small}
 use Rattle.chains.specs.Moves.{hung-on}
 use Rattle.laws.specs.Each.{Each}
 use Rattle.chains.specs.Snoc.{length-snoc}
@@ -29,8 +31,7 @@ use Rattle.demands.specs.Ledger.{File, noFile, closed, writing, Ledger, Request
 use Rattle.met.specs.Relation.{tb, t2, opens, writes, Holds, Writing, Agrees, tp-same, step, long}
 use Rattle.met.specs.Quiet.{turned, alone1, alone2, nobody}
 use Rattle.met.specs.Meets.{Meets}
-use Rattle.chains.specs.Walk.{AllData}
-use Rattle.met.specs.Sectors.{secs-data, secs-off, secs-once, few, fits, sector-small, sector-index, sector-data, last-data, last-none, first-none, index-last, last-fit, first-small, linked-is}
+use Rattle.met.specs.Sectors.{secs-data, secs-off, secs-once, few, fits, linked-is}
 use Rattle.met.specs.Frees.{k-data, k-off, k-in, k-new, fr-data, fr-off, count-is, first-is, first-data, first-index, left, off-is, free-now, spare-now}
 use Rattle.met.specs.Marks.{slot-low, slot-row, slot-apart, slot-in}
 use Rattle.met.specs.Fills.{w, placed-is, buffer-is, write-in, full-step, one-is}
@@ -172,11 +173,7 @@ module _ (M S : ℕ) (z : Shape M S) (img tab : List ℕ) (a : Ledger) (r : Agre
   l-off x t = secs-off M S z img tab a r s hs x t
 
   l′-data : AllData M S l′
-  l′-data x t = go (ℕ-discrete x k)
-    where
-      go : Dec (x ≡ k) → (S ≤ x) × (x < (M + 1) * S)
-      go (yes q) = (omega (arith, klow), omega (arith, k-data M S z img tab a r k fr ef .1))
-      go (no q) = secs-data M S z img tab a r s hs x (omega (arith, t, tally-append x l (k ∷ []), eq1-ne x k q))
+  l′-data = data-append M S l (k ∷ []) (secs-data M S z img tab a r s hs) (data-one M S k (klow, k-data M S z img tab a r k fr ef .1))
 
   long1 : 2560 ≤ length img
   long1 = long M S z img tab a r
@@ -374,7 +371,7 @@ module _ (M S : ℕ) (z : Shape M S) (img tab : List ℕ) (a : Ledger) (r : Agre
         start-eq,
         stores-eq,
       )
-      (refl, refl, take-within b, take-step b)
+      (refl, refl, take-within b, λ plain. take-step b)
 
 -- ---- function 0 in writing
 
@@ -415,12 +412,12 @@ module _ (M S : ℕ) (z : Shape M S) (img tab : List ℕ) (a : Ledger) (r : Agre
             buffer-is M S z img tab a r n hn s ub e 251 h (omega arith),
             one-is (q .byte),
           )
-          (refl, refl, unfold one in (omega arith, (omega arith, tt)), unfold one in full-step M S z img tab a r n hn s ub e (q .byte) p)
+          (refl, refl, unfold one in (omega arith, (omega arith, tt)), unfold one in λ plain. full-step M S z img tab a r n hn s ub e (q .byte) p)
       go (no p) =
           let x = wr .busy h in
           let y = wr .short in
           rw (ne-eqb (tb tab n 34) 0 (omega arith), ne-eqb (tb tab n 34) 255 (omega arith), ne-eqb (length ub) 0 (omega arith), ne-eqb (length ub) 251 p, x)
-          (refl, refl, unfold one in (omega (arith, y), (omega arith, tt)), write-in M S z img tab a r n hn s ub e (q .byte) h (omega arith))
+          (refl, refl, unfold one in (omega (arith, y), (omega arith, tt)), λ plain. write-in M S z img tab a r n hn s ub e (q .byte) h (omega arith))
 
   pub write-meets : (q : Request) (s : ℕ) (ub : List ℕ) → getD (a .blocks) n closed ≡ writing s ub
       → Meets M S img tab n (writeByte img tab M S (320 * n) (q .byte)) (transferred M S a n q (writing s ub))

@@ -16,7 +16,7 @@ use Rattle.rules.specs.Directory.{firstOfDirectory, mostOfDirectory, firstSlotO
 use Rattle.rules.specs.Outcome.{Outcome, done}
 use Rattle.rules.specs.Block.{nameField, indexField, newNameField, bufferField, functionIn, activityIn, driveIn, sizeIn, positionIn, indexIn, nameIn, newNameIn, placeIn, inUse}
 use Rattle.rules.specs.Transfer.{nextToRead, loadPuts, load, reading, offFree, slotIn, linked, fresh, newStart, newSize, takeStores, takePuts, takeFor, takeSector, sent, fill, writing, transfer, shut, mark, closeWriting, close}
-use Rattle.rules.specs.Files.{opened, openRead, newEntry, growStores, grow, openWrite, rewind, openDirectory, shown, nextSlot, readSector, writeProtected, deleteProtected, readProtected, hangStores, gone, remove, delete, rename}
+use Rattle.rules.specs.Files.{opened, openRead, newEntry, growStores, grow, openWrite, rewind, openDirectory, shown, nextSlot, putSlot, readSector, writeSector, writeProtected, deleteProtected, readProtected, hangStores, gone, remove, delete, rename}
 use Rattle.rules.specs.Call.{served, fits, checked, perform, asked}
 use Rattle.laws.specs.Tests.{either, within-is, pick-all, pick-cases}
 use Rattle.laws.specs.Bytes.{length-one, length-two, length-six, length-zeros, length-part, length-fresh}
@@ -27,7 +27,7 @@ use Rattle.laws.specs.Fair.{onSlot-all, onNone-all, orElse-all}
 use Rattle.laws.specs.Facts.{second}
 use Rattle.demands.specs.Demands.{names, looks, slotNamed, isMissing, grows, sectorsNamed, movesFree}
 use Rattle.rules.specs.declared.Lookup.the-variants.{At, Missing}
-use Rattle.met.specs.Bounds.{touches, spans, Touched, spans-at, lands, lands-each, Stored, in-record, in-slot, in-link, in-sector, Tamed, tame-still, tame-done, tame-then}
+use Rattle.met.specs.Bounds.{touches, spans, Touched, spans-at, lands, lands-each, Stored, in-raw, in-record, in-slot, in-link, in-sector, Tamed, tame-still, tame-done, tame-then}
 
 -- of the codes that are served, 13 is the one that is left
 above : (m c : ℕ) → m ≤ c → c ≢ m → m + 1 ≤ c
@@ -36,15 +36,16 @@ above m c h n = omega arith
 beyond : {A : Type 0} (m c : ℕ) → m + 1 ≤ c → c ≤ m → A
 beyond m c h k = absurd (omega arith)
 
-pub last-code : (c : ℕ) → served c ≡ true → c ≢ 0 → c ≢ 1 → c ≢ 2 → c ≢ 4 → c ≢ 5 → c ≢ 6 → c ≢ 7 → c ≢ 9 → c ≢ 12 → c ≡ 13
+pub last-code : (c : ℕ) → served c ≡ true → c ≢ 0 → c ≢ 1 → c ≢ 2 → c ≢ 4 → c ≢ 5 → c ≢ 6 → c ≢ 7 → c ≢ 8 → c ≢ 9 → c ≢ 10 → c ≢ 12 → c ≡ 13
 unfolding served
-last-code c h n0 n1 n2 n4 n5 n6 n7 n9 n12 =
+last-code c h n0 n1 n2 n4 n5 n6 n7 n8 n9 n10 n12 =
     either (within 0 2 c) _ h
     (λ e. let w = within-is 0 2 c e in beyond 2 c (above 2 c (above 1 c (above 0 c (w .0) n0) n1) n2) (w .1))
-    (λ k. either (within 4 7 c) _ k
-    (λ e. let w = within-is 4 7 c e in beyond 7 c (above 7 c (above 6 c (above 5 c (above 4 c (w .0) n4) n5) n6) n7) (w .1))
-    (λ l. either (eqb c 9) _ l (λ e. absurd (n9 (eqb-true c 9 e)))
-    (λ e. let w = within-is 12 13 c e in last (above 12 c (w .0) n12) (w .1))))
+    (λ k. either (within 4 10 c) _ k
+    (λ e.
+    let w = within-is 4 10 c e in
+    beyond 10 c (above 10 c (above 9 c (above 8 c (above 7 c (above 6 c (above 5 c (above 4 c (w .0) n4) n5) n6) n7) n8) n9) n10) (w .1))
+    (λ e. let w = within-is 12 13 c e in last (above 12 c (w .0) n12) (w .1)))
   where
     last : 13 ≤ c → c ≤ 13 → c ≡ 13
     last a b = omega arith
@@ -312,6 +313,19 @@ module _ (img tab : List ℕ) (f b : ℕ) (z : Shaped img) where
     unfolding readSector lands spans touches names within part
     read-sector-tame = pick-all (T 9 act) (isSector M S (positionIn tab f)) _ _ (tame-still img tab f 9 act _ refl) tt
 
+    -- what is written raw: a slot, a sector; the block is left
+    put-slot-tame : T 8 act (putSlot img tab M S f)
+    unfolding putSlot looks member
+    put-slot-tame =
+        onSlot-all (T 8 act) (slotIn img tab M S f) 5 5 _ tt tt
+        (λ slot e. tame-done img tab f 8 act _ [] refl
+        (slot-lies 8 slot (slot % 256) 24 _ (one-is slot (placed-is img M S _ slot e .0)) e (length-part tab _ 24) (omega arith) (omega arith), tt) (λ s. tt))
+
+    write-sector-tame : T 10 act (writeSector img tab M S f)
+    unfolding writeSector looks member
+    write-sector-tame =
+        pick-all (T 10 act) (isSector M S (positionIn tab f)) _ _ (tame-done img tab f 10 act _ [] refl (in-raw _ refl (length-part tab _ 256), tt) (λ s. tt)) tt
+
     gone-lands : (slot : ℕ) → lands 12 act (gone img slot) ≡ true
     unfolding gone lands spans touches names within part one
     gone-lands slot = refl
@@ -388,9 +402,11 @@ module _ (img tab : List ℕ) (f b : ℕ) (z : Shaped img) where
       (λ n4. on-code 5 _ _ (λ k. rewind-tame act) h
       (λ n5. on-code 6 _ _ (λ k. open-directory-tame act) h
       (λ n6. on-code 7 _ _ (λ k. next-slot-tame act) h
-      (λ n7. on-code 9 _ _ (λ k. read-sector-tame act) h
-      (λ n9. on-code 12 _ _ (λ k. delete-tame act) h
-      (λ n12. subst (λ (c : ℕ). T c act (rename img tab M S f)) (sym (last-code code v n0 n1 n2 n4 n5 n6 n7 n9 n12)) (rename-tame act))))))))))
+      (λ n7. on-code 8 _ _ (λ k. put-slot-tame act) h
+      (λ n8. on-code 9 _ _ (λ k. read-sector-tame act) h
+      (λ n9. on-code 10 _ _ (λ k. write-sector-tame act) h
+      (λ n10. on-code 12 _ _ (λ k. delete-tame act) h
+      (λ n12. subst (λ (c : ℕ). T c act (rename img tab M S f)) (sym (last-code code v n0 n1 n2 n4 n5 n6 n7 n8 n9 n10 n12)) (rename-tame act))))))))))))
 
 -- what a call may come to: any image, any table
 pub asked-tame : (img tab : List ℕ) (f b : ℕ) → Tamed img tab f (functionIn tab f) (activityIn tab f) (asked img tab f b)

@@ -9,26 +9,27 @@ use lib.Seq.{getD-drop}
 use lib.ListN.{drop, length-drop, List·getD-eq-default, length, getD, replicate, getD-replicate}
 use lib.Dec.{eqb}
 use borrow.Author.Tests.{eq-eqb, ne-eqb}
-use Rattle.rules.specs.Bytes.{pick, part}
+use Rattle.rules.specs.Bytes.{pick, part, flat}
 use Rattle.rules.specs.Image.{lastTrack, perTrack}
 use Rattle.rules.specs.Directory.{live, slotsOf, member, directory}
 use Rattle.rules.specs.Census.{survey, census, listed, directoryOwner, owners, tally as count}
 use Rattle.laws.specs.Bytes.{part-is}
-use Rattle.laws.specs.Surveys.{Sane, census-accepts}
-use Rattle.chains.specs.Tally.{flat}
+use Rattle.laws.specs.Slots.{live-at}
 use Rattle.chains.specs.Once.{Once, once-length}
 use Rattle.laws.specs.Addresses.{Shape}
 use Rattle.chains.specs.Chain.{empty}
 use Rattle.chains.specs.Directory.{directory-is, slots-append}
-use Rattle.chains.specs.Walk.{length-numbers, dataOf, tally-is, each-sound, once-complete}
+use Rattle.laws.specs.Counting.{once-is}
+use Rattle.chains.specs.Walk.{length-numbers, dataOf, once-complete}
 use Rattle.demands.specs.Ledger.{Call, asking, File, noFile, Block, closed, listing, reading, writing, Ledger, asks, Fate, reply, gives, holdsOpen, activity, block, file, called, secsOf}
 use Rattle.met.specs.Relation.{writes, Keeps, Agrees}
-use Rattle.met.specs.Searches.{live-at, uses-is}
+use Rattle.met.specs.Searches.{uses-is}
 use Rattle.demands.specs.Diskette.{ledgerOf, ledgerNumbers, ledgerOwners, fileAt, filesAt, ownersFrom}
 use Rattle.met.specs.Survey.{files-at, files-are, listed-is, owners-is, ledger-free, ledger-dir, ledger-slots, numbers-back, sane-back, length-files}
 use Rattle.demands.specs.Service.{flex, Machine, run, log, answers, gave}
-use Rattle.demands.specs.History.{scenes, Told, unfinished, pending, shownFrom, shown, buffered, standing, filesOn, concat, had, ahead}
-use Rattle.demands.specs.Demands.{Start, begun, told, Asks, placesOf, Begins, Sound, Demand3}
+use Rattle.demands.specs.History.{scenes, Told, Plain, unfinished, pending, shownFrom, shown, buffered, standing, filesOn, concat, had, ahead}
+use Rattle.demands.specs.Demands.{Start, begun, told, past, Asks, placesOf, Begins, Sound, Demand3}
+use Rattle.met.specs.Joins.{run-more, history-more, plain-more}
 use Rattle.met.specs.Runs.{Fine, asked, always, start-shape, start-fine}
 use Rattle.met.specs.Sent.{called-zero, fits-one}
 use Rattle.met.specs.Got.{Fetched, byte, over, fetched}
@@ -36,8 +37,8 @@ use Rattle.met.specs.Changes.{Onward}
 use Rattle.met.specs.Rests.{Rests, rests-same}
 use Rattle.met.specs.Picture.{entry-is, image-is}
 use Rattle.met.specs.Forms.{table-is}
-use Rattle.met.specs.Stays.{run-more, history-more, then-onward, history-onward, slot-stood, free-stays, shows, fetches, stays, spared-entry, spared-chain, spared-sectors}
-use Rattle.chains.specs.Addresses.{absurd-bool}
+use Rattle.met.specs.Stays.{then-onward, history-onward, slot-stood, free-stays, shows, fetches, stays, spared-entry, spared-chain, spared-sectors}
+use Rattle.chains.specs.Addresses.{absurd-bool, census-sane}
 
 first-left : (p : ℕ) (c : List ℕ) → getD (drop p c) 0 0 ≡ getD c p 0
 first-left p c = getD-drop p c 0 0 ∙ ap (λ (i : ℕ). getD c i 0) (omega arith)
@@ -69,24 +70,7 @@ module _ (M S : ℕ) (z : Shape M S) (y : Machine) (a : Ledger) (f : Fine M S y 
   -- the census accepts, and lists what the ledger has
   pub census-is : (xs ys : List ℕ) → length xs ≡ M * S → length ys ≡ M * S → census (y .img) xs ys ≡ survey 0 (ledgerNumbers S a) (ledgerOwners S a)
   census-is xs ys h k =
-      let m = r .shaped .last in
-      let s = r .shaped .per in
-      let n : lastTrack (y .img) * perTrack (y .img) ≡ M * S = ap₂ (λ (u v : ℕ). u * v) m s in
-      census-accepts (y .img) xs ys
-      (record { shape = shape-here m s; long = r .shaped .size ∙ size-here m s })
-      (sane-here m s (sane-back M S z (y .img) (y .tab) a r (f .tidy)))
-      (h ∙ sym n) (k ∙ sym n)
-      ∙ ap₂ (λ (u v : ℕ). survey 0 (listed (y .img) u v) (owners (y .img) u v)) m s
-      ∙ ap₂ (λ (u v : List ℕ). survey 0 u v) (lists .0) (lists .1)
-    where
-      shape-here : lastTrack (y .img) ≡ M → perTrack (y .img) ≡ S → Shape (lastTrack (y .img)) (perTrack (y .img))
-      shape-here m s = rw (m, s) z
-
-      size-here : lastTrack (y .img) ≡ M → perTrack (y .img) ≡ S → 256 * ((M + 1) * S) ≡ (lastTrack (y .img) + 1) * perTrack (y .img) * 256
-      size-here m s = rw (m, s) (omega arith)
-
-      sane-here : lastTrack (y .img) ≡ M → perTrack (y .img) ≡ S → Sane (y .img) M S → Sane (y .img) (lastTrack (y .img)) (perTrack (y .img))
-      sane-here m s w = rw (m, s) w
+      census-sane M S z (y .img) (r .shaped) (sane-back M S z (y .img) (y .tab) a r (f .tidy)) xs ys h k ∙ ap₂ (λ (u v : List ℕ). survey 0 u v) (lists .0) (lists .1)
 
   -- the free ones, the directory's, the files'
   abbrev sectors : Ledger → List ℕ
@@ -94,7 +78,7 @@ module _ (M S : ℕ) (z : Shape M S) (y : Machine) (a : Ledger) (f : Fine M S y 
 
   pub once-each : (k : ℕ) → k < M * S → count k (ledgerNumbers S a) ≡ 1
   once-each k h =
-      tally-is k (ledgerNumbers S a) ∙ each-sound (M * S) (ledgerNumbers S a) (once-complete M S (sectors a) (r .once)) k h
+      once-is (M * S) (ledgerNumbers S a) (once-complete M S (sectors a) (r .once)) k h
 
   pub no-others : length (ledgerNumbers S a) ≡ M * S
   no-others =
@@ -203,7 +187,7 @@ module _ (x : Machine) (s : Start x) where
         quiet = λ m hm w. omega (arith, w, ap writes (getD-replicate {A = Block} 8 m closed closed hm));
       }
 
-  module _ (cs : List Call) where
+  module _ (cs : List Call) (pl : Plain (past flex x cs)) where
     abbrev y : Machine
     y = run flex x cs
 
@@ -211,10 +195,10 @@ module _ (x : Machine) (s : Start x) where
     h = told flex x cs
 
     f : Fine M S y h × Told M S (scenes M S a (log flex x cs))
-    f = always M S (start-shape x s) cs x a (start-fine x s)
+    f = always M S (start-shape x s) cs x a (start-fine x s) pl
 
     on : Onward S a h
-    on = history-onward M S (start-shape x s) cs x a (start-fine x s)
+    on = history-onward M S (start-shape x s) cs x a (start-fine x s) pl
 
     here : directory (y .img) M S ≡ h .dir
     here = directory-is M S (start-shape x s) (y .img) (h .dir) (f .0 .agrees .listing) (f .0 .agrees .dir) .1
@@ -245,30 +229,31 @@ module _ (x : Machine) (s : Start x) where
           sectors = here;
           places = ap slotsOf here ∙ at-places (h .slots) (slotsOf (h .dir)) (r .ns) (λ i b. r .holds i b .at);
           stood = rw here stood;
-          keeps = λ c.
+          keeps = λ c p.
               let w = then-onward M S z y h (f .0) c in
-              begins (h .dir) (w .ks) (told flex x (cs ++ c ∷ []) .dir) (ap (λ (l : Ledger). l .dir) (history-more M S cs x a c) ∙ w .dir);
+              begins (h .dir) (w .ks) (told flex x (cs ++ c ∷ []) .dir) (ap (λ (l : Ledger). l .dir) (history-more M S flex cs x a c) ∙ w .dir);
           entries = λ i. rw here (λ b. entry-is M S z (y .img) (y .tab) h r i b);
           files = files-shown M S z y h (f .0);
           readers = λ n b q e. reader-next M S z y h (f .0) n b q e;
           lists = λ n b p q e l. shows M S z y h (f .0) n b p q e l;
           fetches = λ n b q e l. fetches M S z y h (f .0) n b q e l;
           stays = λ p at w k l. stays M S z (x .img) (x .tab) (y .img) (y .tab) a h (start-fine x s .agrees) r on refl p w k l at;
-          rests = λ c k u v.
-              ap (λ (w : Machine). part (w .img) (256 * k + 2) 254) (run-more cs x c)
-              ∙ free-stays M S z y h (f .0) c k u (ap (λ (w : Ledger). member k (w .free)) (sym (history-more M S cs x a c)) ∙ v);
+          rests = λ c p k u v.
+              ap (λ (w : Machine). part (w .img) (256 * k + 2) 254) (run-more M S flex cs x a c)
+              ∙ free-stays M S z y h (f .0) c (plain-more M S flex cs x a c p) k u (ap (λ (w : Ledger). member k (w .free)) (sym (history-more M S flex cs x a c)) ∙ v);
           spared = λ i b v u.
               let g = at-rest i b v in
-              let q = rests-same M S z cs x a (start-fine x s) i (fileAt S (x .img) (getD (slotsOf (a .dir)) i 0)) g u in
+              let q = rests-same M S z cs x a (start-fine x s) i (fileAt S (x .img) (getD (slotsOf (a .dir)) i 0)) g pl u in
               let e : file h i ≡ file a i = q .is ∙ sym (g .is) in
               let l : live (file a i .name) 0 ≡ true = ap (λ (k : File). live (k .name) 0) (g .is) ∙ g .alive in
               let r0 = start-fine x s .agrees in
-              let t = slot-stood S a h on i b in (
-                spared-entry M S z (x .img) (x .tab) (y .img) (y .tab) a h r0 r i b (t .0) (t .1) e l,
-                spared-chain M S z (x .img) (x .tab) (y .img) (y .tab) a h r0 r i b (t .0) (t .1) e l,
-                spared-sectors M S z (x .img) (x .tab) (y .img) (y .tab) a h r0 r i b (t .0) (t .1) e l,
-              );
+              let t = slot-stood S a h on i b in
+              record {
+                slot = spared-entry M S z (x .img) (x .tab) (y .img) (y .tab) a h r0 r i b (t .0) (t .1) e l;
+                sectors = spared-chain M S z (x .img) (x .tab) (y .img) (y .tab) a h r0 r i b (t .0) (t .1) e l;
+                bytes = spared-sectors M S z (x .img) (x .tab) (y .img) (y .tab) a h r0 r i b (t .0) (t .1) e l;
+              };
         }
 
 pub demand3 : Demand3 flex
-demand3 x s cs = sound x s cs
+demand3 x s cs pl = sound x s cs pl

@@ -4,9 +4,9 @@ use mathlib.Core.Bool.{false}
 use Prim.Native.Nat.{ℕ, zero, suc, _+_, _*_, _<_}
 use native.Mathlib.Omega.{arith}
 use lib.ListN.{length, getD}
-use Rattle.rules.specs.Bytes.{zeros}
+use Rattle.rules.specs.Bytes.{zeros, flat}
 use Rattle.rules.specs.Directory.{live, neverUsed}
-use Rattle.chains.specs.Tally.{tally, flat}
+use Rattle.chains.specs.Tally.{tally}
 use Rattle.demands.specs.Ledger.{noFile, secsOf, unusedSlot, unusedSlots}
 
 pub length-unused : (o n : ℕ) → length (unusedSlots o n) ≡ n

@@ -2,9 +2,19 @@
 // past the end nothing is stored.
 ghost use mathlib.Core.Path.{_≡_};
 ghost use Prim.Native.Nat.{_+_};
-ghost use lib.ListN.{length, replicate};
+ghost use lib.ListN.{length, getD, replicate};
 ghost use Rattle.rules.specs.Bytes.{over, one, zeros};
 ghost use Rattle.census_laws.specs.Marks.{marked, marking};
+
+// The number at a place, 0 past the end.
+pub fn entry(numbers: &[u16], at: usize) -> u16
+    ensures { λ r. ⌜ r ≡ getD (now (numbers .entry)) at 0 ⌝ }
+{
+    if at < numbers.len() {
+        return numbers[at];
+    }
+    0
+}
 
 // A number stored, i places behind a place. Their sum may be past any output's end.
 pub fn place(out: &mut [u16], at: usize, i: usize, v: u16)

@@ -6,4 +6,5 @@ pub mod All
 pub mod Pair
 pub mod Run
 pub mod Refuted
+pub mod Mended
 pub mod Blank

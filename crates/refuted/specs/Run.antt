@@ -5,7 +5,7 @@ use mathlib.Core.Bool.{Bool, true, false}
 use mathlib.Core.List.{List, [], _∷_, _++_}
 use Prim.Native.Nat.{ℕ, _+_, _*_, _/_, _<_}
 use native.Mathlib.Omega.{arith}
-use lib.ListN.{length, getD}
+use lib.ListN.{length, getD, replicate}
 use lib.Dec.{ltb}
 use Rattle.rules.specs.Bytes.{pick, byteAt, part, within}
 use Rattle.rules.specs.Directory.{live, member, lastSector}
@@ -15,7 +15,7 @@ use Rattle.rules.specs.All.{rules}
 use Rattle.laws.specs.Tests.{never}
 use Rattle.demands.specs.Ledger.{Call, setting, extending, asking, Ledger, Block, closed, listing, reading, writing, file, block, asks, activity, entryOf}
 use Rattle.demands.specs.Service.{flex, Machine, Entry, answers, gave, next, run, log}
-use Rattle.demands.specs.History.{Scene, history, scenes, hits, Unnamed, ahead}
+use Rattle.demands.specs.History.{Scene, history, scenes, raw, Plain, hits, Unnamed, ahead}
 use Rattle.demands.specs.Demands.{Start, lastTrackOf, perTrackOf, begun, told, past, Asks, Idle, inSlot, inLink, sectorsIn, slotsIn, placeIn, Begins, Sound}
 use Rattle.met.specs.Third.{demand3}
 use Rattle.refuted.specs.All.{demands}
@@ -72,6 +72,11 @@ unhit : List ℕ → List Scene → Bool
 unhit nm [] = true
 unhit nm (c ∷ cs) = pick (hits 12 nm c) false (pick (hits 13 nm c) false (unhit nm cs))
 
+-- no raw write was accepted
+tame : List Scene → Bool
+tame [] = true
+tame (c ∷ cs) = pick (raw c) false (tame cs)
+
 -- of a ledger: the eight blocks; code and drive of 1, 3 and 4; the position of 4, how many slots, the byte that is next for 1
 record Facts : Type 0 where
   pub blocks : List Block
@@ -95,24 +100,26 @@ theFacts = record {
   numbers = 261 ∷ 10 ∷ 11 ∷ [];
 }
 
--- of a log; nm is the name that is looked for
+-- of a log from the start x; nm is the name that is looked for
 record Summary : Type 0 where
   pub outs : List (ℕ × ℕ)
   pub facts : Facts
   pub spares : Bool
+  pub plain : Bool
 
-summary : List ℕ → List Entry → Summary
-summary nm es = record {
+summary : Machine → List ℕ → List Entry → Summary
+summary x nm es = record {
   outs = outcomes es;
-  facts = factsOf (history (lastTrackOf pair) (perTrackOf pair) (begun pair) es);
-  spares = unhit nm (scenes (lastTrackOf pair) (perTrackOf pair) (begun pair) es);
+  facts = factsOf (history (lastTrackOf x) (perTrackOf x) (begun x) es);
+  spares = unhit nm (scenes (lastTrackOf x) (perTrackOf x) (begun x) es);
+  plain = tame (scenes (lastTrackOf x) (perTrackOf x) (begun x) es);
 }
 
 abbrev aTxt : List ℕ
 aTxt = part (pair .img) (placeIn pair 0) 11
 
-computed : summary aTxt (log flex pair trial) ≡ record { outs = theOutcomes; facts = theFacts; spares = true }
-unfolding rules demands tried unhit summary
+computed : summary pair aTxt (log flex pair trial) ≡ record { outs = theOutcomes; facts = theFacts; spares = true; plain = true }
+unfolding rules demands tried unhit tame summary
 computed = refl
 
 -- ---- ITS ANSWERS
@@ -148,6 +155,20 @@ pub trial-busy : Busy (told flex pair trial)
 unfolding summary
 trial-busy = busy (told flex pair trial) (ap (λ (s : Summary). s .facts) computed)
 
+not-hit : (b c : Bool) → pick b false c ≡ true → (b ≡ false) × (c ≡ true)
+not-hit true c h = absurd (never h)
+not-hit false c h = (refl, h)
+
+-- no raw write was accepted
+plainly : (cs : List Scene) → tame cs ≡ true → Plain cs
+unfolding tame
+plainly [] h = tt
+plainly (c ∷ cs) h = let p = not-hit (raw c) (tame cs) h in (p .0, plainly cs (p .1))
+
+pub trial-plain : Plain (past flex pair trial)
+unfolding summary
+trial-plain = plainly (past flex pair trial) (ap (λ (s : Summary). s .plain) computed)
+
 -- A.TXT is spared: live at the start, and no call names it
 unnamed : (nm : List ℕ) (cs : List Scene) → unhit nm cs ≡ true → Unnamed nm cs
 unfolding unhit
@@ -156,10 +177,6 @@ unnamed nm (c ∷ cs) h =
     let p = not-hit (hits 12 nm c) (pick (hits 13 nm c) false (unhit nm cs)) h in
     let q = not-hit (hits 13 nm c) (unhit nm cs) (p .1) in
     (p .0, q .0, unnamed nm cs (q .1))
-  where
-    not-hit : (b c : Bool) → pick b false c ≡ true → (b ≡ false) × (c ≡ true)
-    not-hit true c h = absurd (never h)
-    not-hit false c h = (refl, h)
 
 pub trial-unnamed : Unnamed aTxt (past flex pair trial)
 unfolding summary
@@ -180,13 +197,17 @@ pub trial-rests : (member 9 (told flex pair (asking 0 0 ∷ []) .free) ≡ true)
 unfolding rules demands paired
 trial-rests = (refl, refl)
 
+trial-early : Plain (past flex pair (asking 0 0 ∷ [])) × Plain (past flex pair (asking 0 0 ∷ asking 0 70 ∷ []))
+unfolding rules demands paired
+trial-early = ((refl, tt), (refl, (refl, tt)))
+
 -- so the clauses, which ours meets, say this of the end, and of the second call
 abbrev pub end : Machine
 end = run flex pair trial
 
 -- every clause, of this run
 pub trial-sound : Sound flex pair trial
-trial-sound = demand3 pair pair-start trial
+trial-sound = demand3 pair pair-start trial trial-plain
 
 -- what those that ask for something say, with what they ask for handed to them
 pub clauses : (gave flex end (asking 1 0) ≡ 11)
@@ -202,11 +223,11 @@ clauses =
       s .lists 3 0 2 (b .lists .0) (b .lists .1) (b .lists .2) .1,
       s .fetches 4 0 (b .fetches .0) (b .fetches .1) (ap (isSector (lastTrackOf pair) (perTrackOf pair)) (b .fetches .2) ∙ quiet-there .3) .0,
       s .stays 0 (quiet-there .0) refl (quiet-there .1) (quiet-there .2),
-      s .spared 0 (trial-live .0) (trial-live .1) trial-unnamed .0,
+      s .spared 0 (trial-live .0) (trial-live .1) trial-unnamed .slot,
     )
 
 pub clauses-early : part (run flex pair (asking 0 0 ∷ asking 0 70 ∷ []) .img) 2306 254 ≡ part (run flex pair (asking 0 0 ∷ []) .img) 2306 254
-clauses-early = demand3 pair pair-start (asking 0 0 ∷ []) .rests (asking 0 70) 9 (trial-rests .0) (trial-rests .1)
+clauses-early = demand3 pair pair-start (asking 0 0 ∷ []) (trial-early .0) .rests (asking 0 70) (trial-early .1) 9 (trial-rests .0) (trial-rests .1)
 
 -- ---- A START WHOSE DIRECTORY HAS GROWN: what C.TXT, made where no slot was left, with a byte, and closed, leaves; all blocks closed again
 
@@ -231,18 +252,37 @@ onward =
     asking 3 0 ∷ setting 3 0 7 ∷ asking 3 0 ∷ asking 3 0 ∷ asking 3 0 ∷ asking 3 0 ∷ asking 3 0 ∷ asking 3 0 ∷ asking 3 0 ∷ asking 3 0 ∷ asking 3 0 ∷ asking 3 0
     ∷ asking 5 0 ∷ []
 
--- what is computed of it: blocks 3 and 5, how many slots, code and drive of 3, and that no call names C.TXT
-grown-busy : (block (told flex grown onward) 3 ≡ listing 10) × (block (told flex grown onward) 5 ≡ writing 11 []) × (10 < length (told flex grown onward .slots))
-    × Asks (told flex grown onward) 3 7
-unfolding rules demands paired crowd grown onward
-grown-busy = (refl, refl, omega arith, record { block = omega arith; function = refl; drive = refl })
-
 cTxt : List ℕ
 cTxt = part (grown .img) 1552 11
 
+-- what is computed of it, in one go
+abbrev grownFacts : Facts
+grownFacts = record {
+  blocks = closed ∷ closed ∷ closed ∷ listing 10 ∷ closed ∷ writing 11 [] ∷ closed ∷ closed ∷ [];
+  codes = 1 ∷ 7 ∷ 9 ∷ [];
+  drives = 0 ∷ 0 ∷ 0 ∷ [];
+  numbers = 261 ∷ 20 ∷ 0 ∷ [];
+}
+
+grown-computed : summary grown cTxt (log flex grown onward) ≡ record { outs = replicate 13 (0, 0); facts = grownFacts; spares = true; plain = true }
+unfolding rules demands paired crowd grown onward unhit tame summary cTxt
+grown-computed = refl
+
+-- block 3 has been shown ten of the slots, and asks for one more
+grown-busy : (a : Ledger) → factsOf a ≡ grownFacts → Asks a 3 7 × (block a 3 ≡ listing 10) × (10 < length (a .slots))
+grown-busy a e = (
+  record { block = omega arith; function = ap (λ (f : Facts). getD (f .codes) 1 0) e; drive = ap (λ (f : Facts). getD (f .drives) 1 0) e },
+  ap (λ (f : Facts). getD (f .blocks) 3 closed) e,
+  rw (ap (λ (f : Facts). getD (f .numbers) 1 0) e) (omega arith),
+)
+
 grown-unnamed : Unnamed cTxt (past flex grown onward)
-unfolding rules demands paired crowd grown onward unhit cTxt
-grown-unnamed = unnamed cTxt (past flex grown onward) refl
+unfolding summary
+grown-unnamed = unnamed cTxt (past flex grown onward) (ap (λ (s : Summary). s .spares) grown-computed)
+
+grown-plain : Plain (past flex grown onward)
+unfolding summary
+grown-plain = plainly (past flex grown onward) (ap (λ (s : Summary). s .plain) grown-computed)
 
 -- so the clauses say of it: the eleventh slot is shown next, and it is C.TXT's; C.TXT keeps its 24 bytes; byte 2 of the directory's data sector stays;
 -- the slots of the start come first
@@ -250,12 +290,12 @@ pub grown-clauses : (part (next flex (run flex grown onward) (asking 3 0) .tab) 
     × (part (run flex grown onward .img) 1552 24 ≡ part (grown .img) 1552 24)
     × (byteAt (run flex grown onward .img) 1538 ≡ byteAt (grown .img) 1538)
     × Begins (slotsIn grown (grown .img)) (slotsIn grown (run flex grown onward .img))
-unfolding rules demands paired crowd grown cTxt
+unfolding rules demands paired crowd grown cTxt summary
 grown-clauses =
-    let s = demand3 grown grown-start onward in
-    let b = grown-busy in (
-      s .lists 3 0 10 (b .3) (b .0) (b .2) .1,
-      s .spared 10 (omega arith) refl grown-unnamed .0,
+    let s = demand3 grown grown-start onward grown-plain in
+    let b = grown-busy (told flex grown onward) (ap (λ (s : Summary). s .facts) grown-computed) in (
+      s .lists 3 0 10 (b .0) (b .1) (b .2) .1,
+      s .spared 10 (omega arith) refl grown-unnamed .slot,
       s .stays 1538 refl refl refl refl,
       s .stood,
     )

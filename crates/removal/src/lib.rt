@@ -20,11 +20,8 @@ use disk::link;
 use disk::put_free;
 use entries::Entry;
 use entries::entry_at;
-
-// Where the fields of a block stand.
-const ERROR: usize = 1;
-
-const NAME: usize = 4;
+use rules::block::ERROR;
+use rules::block::NAME;
 
 // A slot's first byte becomes 255.
 fn mark(image: &mut [u8], slot: u32)

@@ -141,13 +141,12 @@ onTable tab n e =
     (pick (ltb n blocks) e (effect 13 0 [] []))
     (effect 13 0 [] [])
 
--- "3-14, 25-27, 30-31, 53-63"
+-- "3-14, 25-27, 30-31, 53-63"; 02, "preset taking 15-24 and 64-319 too"
 unfoldable pub presettable : ℕ → Bool
 presettable i =
-    pick (within 3 14 i) true
-    (pick (within 25 27 i) true
+    pick (within 3 27 i) true
     (pick (within 30 31 i) true
-    (within 53 63 i)))
+    (within 53 319 i))
 
 -- "Preset writes one byte: offset 0 always; .. if activity is 0 or 16. Otherwise 18, nothing changed."
 unfoldable pub presetIn : List ℕ → ℕ → ℕ → ℕ → Effect

@@ -8,23 +8,22 @@ use Rattle.rules.specs.Image.{lastTrack, perTrack, shapeRight}
 use Rattle.rules.specs.Outcome.{Outcome, unless, Effect, settled}
 use Rattle.rules.specs.Block.{blockAt, functionIn, activityIn, driveIn, idle, onTable}
 use Rattle.rules.specs.Transfer.{transfer, close}
-use Rattle.rules.specs.Files.{openRead, openWrite, rewind, openDirectory, nextSlot, readSector, delete, rename}
+use Rattle.rules.specs.Files.{openRead, openWrite, rewind, openDirectory, nextSlot, putSlot, readSector, writeSector, delete, rename}
 
--- "Function codes served at first: 0, 1, 2, 4, 5, 6, 7, 9, 12, 13."
+-- "Function codes served at first: 0, 1, 2, 4, 5, 6, 7, 9, 12, 13."; 02, "functions 8 .. and 10"
 unfoldable pub served : ℕ → Bool
 served code =
     pick (within 0 2 code) true
-    (pick (within 4 7 code) true
-    (pick (eqb code 9) true
-    (within 12 13 code)))
+    (pick (within 4 10 code) true
+    (within 12 13 code))
 
--- "an activity the function doesn't name; function 0 takes 1 or 2, close 1, 2 or 16"; 5 takes 1, 7 takes 16, all others 0 or 16
+-- "an activity the function doesn't name; function 0 takes 1 or 2, close 1, 2 or 16"; 5 takes 1, 7 and 8 take 16, all others 0 or 16
 unfoldable pub fits : ℕ → ℕ → Bool
 fits code act =
     pick (eqb code 0) (within 1 2 act)
     (pick (eqb code 4) (pick (within 1 2 act) true (eqb act 16))
     (pick (eqb code 5) (eqb act 1)
-    (pick (eqb code 7) (eqb act 16)
+    (pick (within 7 8 code) (eqb act 16)
     (idle act))))
 
 -- "a closed FCB in close gives 13 here"
@@ -50,9 +49,11 @@ perform img tab M S f b =
     (pick (eqb (functionIn tab f) 5) rewind
     (pick (eqb (functionIn tab f) 6) openDirectory
     (pick (eqb (functionIn tab f) 7) (nextSlot img tab M S f)
+    (pick (eqb (functionIn tab f) 8) (putSlot img tab M S f)
     (pick (eqb (functionIn tab f) 9) (readSector img tab M S f)
+    (pick (eqb (functionIn tab f) 10) (writeSector img tab M S f)
     (pick (eqb (functionIn tab f) 12) (delete img tab M S f)
-    (rename img tab M S f)))))))))
+    (rename img tab M S f)))))))))))
 
 -- what the block that begins at f asks for
 unfoldable pub asked : List ℕ → List ℕ → ℕ → ℕ → Outcome

@@ -1,4 +1,5 @@
--- 01, "The ten functions": open, rewind, the directory's functions, read sector, delete, rename. The block begins at f.
+-- 01, "The ten functions": open, rewind, the directory's functions, read sector, delete, rename; 02, "Raw writing": put slot, write sector. The
+-- block begins at f.
 use mathlib.Core.Bool.{Bool, true, false}
 use mathlib.Core.List.{List, [], _∷_, _++_}
 use Prim.Native.Nat.{ℕ, _+_, _*_, _/_, _%_}
@@ -83,7 +84,7 @@ openWrite img tab M S f =
     (orElse (vacancy img M S) 5 (grow img tab M S f) λ slot.
     done 0 (store (slot / 256) (slot % 256) (newEntry tab f) ∷ []) (opened S 2 slot (newEntry tab f))))
 
--- ---- 5 rewind, 6 open directory, 7 next slot, 9 read sector
+-- ---- 5 rewind, 6 open directory, 7 next slot, 8 put slot, 9 read sector, 10 write sector
 
 -- "5 rewind: .. zeroes 0, 30-31 and 34."
 unfoldable pub rewind : Outcome
@@ -111,6 +112,18 @@ unfoldable pub readSector : List ℕ → List ℕ → ℕ → ℕ → ℕ → Ou
 readSector img tab M S f =
     unless (isSector M S (positionIn tab f)) 9
     (done 0 [] (put bufferField (part img (256 * index S (positionIn tab f)) 256) ∷ []))
+
+-- 02, "functions 8 (activity 16; 5)": place (5), then FCB bytes 4-27 to the slot. Place 0,0,0 is no slot's
+unfoldable pub putSlot : List ℕ → List ℕ → ℕ → ℕ → ℕ → Outcome
+putSlot img tab M S f =
+    onSlot (slotIn img tab M S f) 5 5 λ slot.
+    done 0 (store (slot / 256) (slot % 256) (part tab (f + nameField) 24) ∷ []) []
+
+-- 02, "10 (activity 0 or 16; 10 if no such sector)": the buffer to any existing sector at 30-31
+unfoldable pub writeSector : List ℕ → List ℕ → ℕ → ℕ → ℕ → Outcome
+writeSector img tab M S f =
+    unless (isSector M S (positionIn tab f)) 10
+    (done 0 (store (index S (positionIn tab f)) 0 (part tab (f + bufferField) 256) ∷ []) [])
 
 -- ---- 12 delete, 13 rename
 

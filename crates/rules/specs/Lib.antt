@@ -12,5 +12,6 @@ pub mod Call
 pub mod Census
 pub mod Text
 pub mod Format
+pub mod Repair
 pub mod Host
 pub mod All

@@ -7,7 +7,7 @@ use denote.Ref.{now}
 use Rattle.rules.specs.Outcome.{told}
 use Rattle.rules.specs.Host.{asBytes}
 use Rattle.laws.specs.Facts.{Given}
-use Rattle.flex.proofs.Ensured.{Ensures, preset-ensured, extension-ensured, call-ensured, census-ensured, text-ensured, format-ensured}
+use Rattle.flex.proofs.Ensured.{Ensures, preset-ensured, extension-ensured, call-ensured, census-ensured, text-ensured, format-ensured, repair-ensured}
 use Rattle.flex.proofs.flex_preset.Kinds as preset
 use Rattle.flex.proofs.flex_preset.Reads as presetReads
 use Rattle.flex.proofs.flex_extension.Kinds as extension
@@ -20,6 +20,8 @@ use Rattle.flex.proofs.flex_error_text.Kinds as text
 use Rattle.flex.proofs.flex_error_text.Reads as textReads
 use Rattle.flex.proofs.flex_format.Kinds as format
 use Rattle.flex.proofs.flex_format.Reads as formatReads
+use Rattle.flex.proofs.flex_repair.Kinds as repair
+use Rattle.flex.proofs.flex_repair.Reads as repairReads
 use Rattle.demands.specs.Service.{Wanted, flex}
 use Rattle.served.specs.Entries.{Output, apart, readBack}
 use Rattle.served.specs.Served.{preset-served, extension-served, call-served, census-served}
@@ -56,3 +58,6 @@ wanted last per label volume month day year = record { last = last; per = per; l
 pub format-code : Ensures 2 format.ps format.r formatReads.Asked formatReads.Learnt
     (λ κs a r s. told r (now (s .0)) ≡ flex .format (now (a .0)) (wanted (a .1 .0) (a .1 .1 .0) (now (a .1 .1 .1 .0)) (a .1 .1 .1 .1 .0) (a .1 .1 .1 .1 .1 .0) (a .1 .1 .1 .1 .1 .1 .0) (a .1 .1 .1 .1 .1 .1 .1 .0)))
 format-code = format-ensured
+
+pub repair-code : Ensures 2 repair.ps repair.r repairReads.Asked repairReads.Learnt (λ κs a r s. told r (now (s .0)) ≡ flex .repair (now (a .0)) (now (a .1 .0)))
+repair-code = repair-ensured

@@ -1,4 +1,4 @@
--- THE STATEMENT: the six exported entries as a host sees them, what is known of them, the service that a host builds from them, and that it is
+-- THE STATEMENT: the seven exported entries as a host sees them, what is known of them, the service that a host builds from them, and that it is
 -- the demands' service.
 use mathlib.Core.Path.{_≡_}
 use mathlib.Core.List.{List, [], _∷_}
@@ -9,7 +9,7 @@ use Rattle.rules.specs.Census.{Survey, survey}
 use Rattle.rules.specs.Host.{asBytes}
 use Rattle.laws.specs.Each.{Each}
 use Rattle.laws.specs.Small.{Small}
-use Rattle.flex.specs.Promised.{PresetPromise, ExtensionPromise, CallPromise, CensusPromise, TextPromise, FormatPromise}
+use Rattle.flex.specs.Promised.{PresetPromise, ExtensionPromise, CallPromise, CensusPromise, TextPromise, FormatPromise, RepairPromise}
 use Rattle.demands.specs.Service.{Wanted, Service, flex}
 use Rattle.demands.specs.Demands.{Typed}
 
@@ -47,6 +47,7 @@ pub record Entries : Type 0 where
   pub flex-census : List ℕ → List ℕ → List ℕ → ℕ × List ℕ × List ℕ
   pub flex-error-text : List ℕ → ℕ → ℕ × List ℕ
   pub flex-format : List ℕ → Wanted → ℕ × List ℕ
+  pub flex-repair : List ℕ → List ℕ → ℕ × List ℕ
 
 -- every outcome fits its promise, whatever a host hands over
 pub record Kept (h : Entries) : Type 0 where
@@ -62,6 +63,8 @@ pub record Kept (h : Entries) : Type 0 where
       → let o = h .flex-error-text m e in TextPromise m e (o .0) (o .1)
   pub format : (img : List ℕ) (w : Wanted) → Held img → Askable w
       → let o = h .flex-format img w in FormatPromise img (w .last) (w .per) (w .label) (w .volume) (w .month) (w .day) (w .year) (o .0) (o .1)
+  pub repair : (img tab : List ℕ) → Held img → Held tab
+      → let o = h .flex-repair img tab in RepairPromise img tab (o .0) (o .1)
 
 -- ---- the service that a host builds from them
 
@@ -89,6 +92,7 @@ serviceOf h = record {
   census = λ img xs ys. readBack (h .flex-census img (asBytes xs) (asBytes ys));
   text = λ m e. saying (h .flex-error-text m e);
   format = λ img w. saying (h .flex-format img w);
+  repair = λ img tab. saying (h .flex-repair img tab);
 }
 
 -- ---- the same service, to a host
@@ -100,6 +104,7 @@ pub record Same (σ τ : Service) : Type 0 where
   pub census : (img xs ys : List ℕ) → Held img → Output xs → Output ys → σ .census img xs ys ≡ τ .census img xs ys
   pub text : (m : List ℕ) (e : ℕ) → Held m → e < 256 → σ .text m e ≡ τ .text m e
   pub format : (img : List ℕ) (w : Wanted) → Held img → Askable w → σ .format img w ≡ τ .format img w
+  pub repair : (img tab : List ℕ) → Held img → Held tab → σ .repair img tab ≡ τ .repair img tab
 
 -- the promises, and nothing else, give the service that the demands speak of
 abbrev pub Served : Type 0

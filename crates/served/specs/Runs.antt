@@ -1,18 +1,24 @@
 -- Lists of calls: a service that is the same to a host as the demands' leaves the same log, image and table, whatever a host calls.
-use mathlib.Core.Path.{_≡_, refl, ap, ap₂, _∙_}
+use mathlib.Core.Path.{_≡_, refl, sym, ap, ap₂, _∙_, subst}
 use mathlib.Core.List.{List, [], _∷_}
 use Prim.Native.Nat.{ℕ, _<_}
 use native.Mathlib.Omega.{arith}
+use native.Mathlib.Decide.{ℕ-discrete}
 use lib.ListN.{length}
-use Rattle.rules.specs.Outcome.{Out, out, onImage, onBlock, Told, saysOf, leftOf}
+use Rattle.rules.specs.Outcome.{Out, out, onImage, onBlock, Told, told, saysOf, leftOf}
 use Rattle.rules.specs.Block.{blockAt, preset, extension}
 use Rattle.rules.specs.Call.{call}
+use Rattle.rules.specs.Image.{lastTrack, perTrack}
+use Rattle.rules.specs.Repair.{mended, repair}
 use Rattle.laws.specs.Each.{Each}
 use Rattle.laws.specs.Small.{Small}
 use Rattle.laws.specs.Facts.{Given}
 use Rattle.laws.specs.Stores.{length-stored, length-puts}
 use Rattle.laws.specs.Effects.{call-lawful, preset-quiet, extension-quiet}
 use Rattle.laws.specs.Blank.{formatted}
+use Rattle.mending.specs.Laid.{small-mended}
+use Rattle.mending.specs.Accepted.{mended-left}
+use Rattle.mending.specs.Repairs.{Answered, repair-is}
 use Rattle.demands.specs.Ledger.{Call, setting, extending, asking}
 use Rattle.demands.specs.Service.{Wanted, Service, flex, imgOf, tabOf, ansOf, byteOf, Machine, Entry, outcome, next, entry, run, log}
 use Rattle.served.specs.Entries.{limit, Held, Askable, Entries, Kept, serviceOf, Same}
@@ -65,6 +71,20 @@ held-format img w h a =
     let f = formatted img (w .last) (w .per) (w .label) (w .volume) (w .month) (w .day) (w .year) in
     let t = a .typed in
     held-as img _ h (f .long) (f .small (h .bytes) (t .label) (t .month) (t .day) (t .year))
+
+-- and after a repair
+pub held-repair : (img tab : List ℕ) → Held img → Held (leftOf (flex .repair img tab))
+held-repair img tab h = go (repair img tab) refl
+  where
+    go : (o : Told) → repair img tab ≡ o → Held (leftOf o)
+    go (told a m) e = by (ℕ-discrete a 0) (repair-is img tab a m e)
+      where
+        by : Dec (a ≡ 0) → Answered img tab a m → Held m
+        by (no n) r = subst Held (sym (r .kept n)) h
+        by (yes n) r =
+            let z = r .ready n (h .bytes) in
+            subst Held (sym (r .made n))
+            (held-as img (mended img (lastTrack img) (perTrack img)) h (mended-left (lastTrack img) (perTrack img) img z .long) (small-mended img (lastTrack img) (perTrack img) (h .bytes)))
 
 module _ (σ : Service) (s : Same σ flex) where
   outcome-same : (x : Machine) → HeldMachine x → (c : Call) → Made c → outcome σ x c ≡ outcome flex x c

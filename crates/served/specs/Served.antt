@@ -1,4 +1,4 @@
--- THE THEOREM: the promises give the service. Each promise by itself first, then all six.
+-- THE THEOREM: the promises give the service. Each promise by itself first, then all seven.
 use mathlib.Core.Path.{_≡_, refl, ap, ap₂, _∙_}
 use mathlib.Core.Bool.{Bool, true, false}
 use mathlib.Core.List.{List}
@@ -88,7 +88,7 @@ module _ (img xs ys : List ℕ) (p : Output xs) (q : Output ys) where
   pub census-served : (r : ℕ) (us ws : List ℕ) → CensusPromise img (asBytes xs) (asBytes ys) r us ws → readBack (r, us, ws) ≡ flex .census img xs ys
   census-served r us ws c = ap backOf c ∙ census-back
 
--- ---- all six
+-- ---- all seven
 
 pub served : Served
 served h k = record {
@@ -98,6 +98,7 @@ served h k = record {
   census = λ img xs ys i p q. census-served img xs ys p q _ _ _ (k .census img (asBytes xs) (asBytes ys) i (lent xs p) (lent ys q));
   text = λ m e t a. k .text m e t a;
   format = λ img w i a. k .format img w i a;
+  repair = λ img tab i t. k .repair img tab i t;
 }
   where
     lent : (zs : List ℕ) → Output zs → Held (asBytes zs)

@@ -9,8 +9,9 @@ use Rattle.rules.specs.Call.{call}
 use Rattle.rules.specs.Census.{Survey, survey}
 use Rattle.rules.specs.Text.{errorText}
 use Rattle.rules.specs.Format.{format}
+use Rattle.rules.specs.Repair.{repair}
 use Rattle.rules.specs.Host.{packed, hostCensus}
-use Rattle.flex.specs.Promises.{flex-preset-single, flex-extension-single, flex-call-single, flex-census-single, flex-error-text-single, flex-format-single}
+use Rattle.flex.specs.Promises.{flex-preset-single, flex-extension-single, flex-call-single, flex-census-single, flex-error-text-single, flex-format-single, flex-repair-single}
 use Rattle.demands.specs.Service.{Wanted}
 use Rattle.served.specs.Entries.{limit, Held, Askable, Entries, Kept}
 
@@ -34,6 +35,7 @@ byRules = record {
   flex-census = λ img xs ys. surveyed (hostCensus img xs ys);
   flex-error-text = λ m e. texted (errorText m e);
   flex-format = λ img w. texted (format img (w .last) (w .per) (w .label) (w .volume) (w .month) (w .day) (w .year));
+  flex-repair = λ img tab. texted (repair img tab);
 }
 
 survey-is : (s : Survey) → survey (surveyed s .0) (surveyed s .1) (surveyed s .2) ≡ s
@@ -50,6 +52,7 @@ kept-by-rules = record {
   census = λ img xs ys i a b. survey-is (hostCensus img xs ys);
   text = λ m e t a. told-is (errorText m e);
   format = λ img w i a. told-is (format img (w .last) (w .per) (w .label) (w .volume) (w .month) (w .day) (w .year));
+  repair = λ img tab i t. told-is (repair img tab);
 }
 
 -- ---- in one way only: the number and the bytes of every entry
@@ -61,6 +64,7 @@ pub record SameEntries (h h′ : Entries) : Type 0 where
   pub census : (img xs ys : List ℕ) → Held img → Held xs → Held ys → h .flex-census img xs ys ≡ h′ .flex-census img xs ys
   pub text : (m : List ℕ) (e : ℕ) → Held m → e < 256 → h .flex-error-text m e ≡ h′ .flex-error-text m e
   pub format : (img : List ℕ) (w : Wanted) → Held img → Askable w → h .flex-format img w ≡ h′ .flex-format img w
+  pub repair : (img tab : List ℕ) → Held img → Held tab → h .flex-repair img tab ≡ h′ .flex-repair img tab
 
 pair : (o o′ : ℕ × List ℕ) → (o .0 ≡ o′ .0) × (o .1 ≡ o′ .1) → o ≡ o′
 pair o o′ e = ap₂ (λ (r : ℕ) (m : List ℕ). (r, m)) (e .0) (e .1)
@@ -79,4 +83,5 @@ kept-single h h′ k k′ = record {
   census = λ img xs ys i a b. triple _ _ (flex-census-single img xs ys (k .census img xs ys i a b) (k′ .census img xs ys i a b));
   text = λ m e t a. pair _ _ (flex-error-text-single m e (k .text m e t a) (k′ .text m e t a));
   format = λ img w i a. pair _ _ (flex-format-single img (w .last) (w .per) (w .label) (w .volume) (w .month) (w .day) (w .year) (k .format img w i a) (k′ .format img w i a));
+  repair = λ img tab i t. pair _ _ (flex-repair-single img tab (k .repair img tab i t) (k′ .repair img tab i t));
 }

@@ -3,7 +3,6 @@
 ghost use mathlib.Core.Path.{_≡_};
 ghost use mathlib.Core.Bool.{false};
 ghost use Prim.Native.Nat.{_<_};
-ghost use lib.ListN.{getD};
 ghost use Rattle.rules.specs.Bytes.{pick, part, over, same};
 ghost use Rattle.rules.specs.Directory.{live, named, directory, slots, sizeAt};
 ghost use Rattle.rules.specs.Census.{namesake, twins};
@@ -24,16 +23,14 @@ use directory::most_slots;
 use directory::next_of;
 use directory::same_name;
 use directory::step_slot;
+use outputs::entry;
 use outputs::fill;
 use outputs::place;
 use outputs::run;
 use rules::Lookup;
 use rules::Next;
-
-// The directory's first sector, and its first slot.
-const FIRST_SECTOR: u16 = 4;
-
-const FIRST_SLOT: u32 = 1040;
+use rules::place::FIRST_SECTOR;
+use rules::place::FIRST_SLOT;
 
 // Is a slot live with the name of this one?
 fn is_namesake(image: &[u8], this: u32, slot: u32) -> bool
@@ -101,16 +98,6 @@ fn has_pair(image: &[u8], last: u8, per: u8) -> bool
         left -= 1;
     }
     false
-}
-
-// The entry of the table of names at a place, 0 past its end.
-fn entry(marks: &[u16], at: usize) -> u16
-    ensures { λ r. ⌜ r ≡ getD (now (marks .entry)) at 0 ⌝ }
-{
-    if at < marks.len() {
-        return marks[at];
-    }
-    0
 }
 
 // The code of a slot. Its entry is that and 1.

@@ -25,21 +25,13 @@ use disk::link;
 use disk::link_of;
 use disk::put_free;
 use rules::Lookup;
-
-// Where the fields of a block stand.
-const START: usize = 17;
-
-const SIZE: usize = 21;
-
-const POSITION: usize = 30;
-
-const NUMBER: usize = 32;
-
-const INDEX: usize = 34;
-
-const PLACE: usize = 47;
-
-const BUFFER: usize = 64;
+use rules::block::BUFFER;
+use rules::block::INDEX;
+use rules::block::NUMBER;
+use rules::block::PLACE;
+use rules::block::POSITION;
+use rules::block::SIZE;
+use rules::block::START;
 
 // What a block says of the file that it writes.
 struct Block {

@@ -21,24 +21,17 @@ use disk::is_data;
 use disk::load_sector;
 use disk::store_data;
 use rules::Lookup;
+use rules::block::ACTIVITY;
+use rules::block::BUFFER;
+use rules::block::ERROR;
+use rules::block::INDEX;
+use rules::block::NUMBER;
+use rules::block::POSITION;
+use rules::block::START;
 use taking::slot_of;
 use taking::take_sector;
 
-// Where the fields of a block stand.
-const ERROR: usize = 1;
-
-const ACTIVITY: usize = 2;
-
-const START: usize = 17;
-
-const POSITION: usize = 30;
-
-const NUMBER: usize = 32;
-
-const INDEX: usize = 34;
-
-const BUFFER: usize = 64;
-
+// Where the data of the sector in the buffer stands, behind link and record number.
 const DATA: usize = 68;
 
 // What reading gives: the byte, or the number of the refusal.

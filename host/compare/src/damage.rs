@@ -1,8 +1,8 @@
 //! Damaged diskettes, random control blocks, and calls aimed at states that a host alone would hardly reach.
 
-use crate::image::is_live;
+use crate::image::{address, is_live, Address};
 use crate::pair::Checked;
-use crate::scene::{Scene, SLOT_ATTRIBUTES};
+use crate::scene::{Scene, SLOT_ATTRIBUTES, SLOT_MAP};
 use flex::{
     Steps, ACTIVITY, BLOCK, BLOCKS, BUFFER, CLOSE, DELETE, DRIVE, END, INDEX, NAME, NEW_NAME, NEXT_SLOT, OPEN_READ,
     OPEN_WRITE, PLACE, POSITION, RENAME, SIZE, START,
@@ -16,9 +16,11 @@ impl Scene<'_> {
     pub fn what_if(&mut self) -> Checked<()> {
         let before = self.snapshot();
         self.damage_image()?;
-        match self.random.below(4) {
+        match self.random.below(6) {
             0 => self.aim()?,
             1 => self.work()?,
+            2 => self.raw_write()?,
+            3 => self.mend()?,
             _ => self.survey()?,
         }
         self.restore(before);
@@ -71,10 +73,14 @@ impl Scene<'_> {
 
     fn damage_slot(&mut self) {
         let slot = self.any_slot();
-        match self.random.below(8) {
+        match self.random.below(9) {
             0 => {
                 let attributes = self.random.one_of(&[0, 0, 16, 32, 64, 128, 192, 223, 255]);
                 self.pair.poke_image(slot + SLOT_ATTRIBUTES, &[attributes]);
+            }
+            8 => {
+                let map = self.random.one_of(&[0, 1, 2, 255]);
+                self.pair.poke_image(slot + SLOT_MAP, &[map]);
             }
             1 => {
                 let first = self.random.one_of(&[0, 1, 127, 128, 255]);
@@ -147,6 +153,81 @@ impl Scene<'_> {
         } else {
             self.pair.poke_image(541, &addresses);
         }
+    }
+
+    /// One thing that is wrong with a chain, while shape, directory and names mostly stay right: so a repair can be made.
+    pub fn damage_chains(&mut self) {
+        match self.random.below(16) {
+            0..=6 => self.cross(),
+            7..=8 => self.share(),
+            9..=10 => self.misstate(),
+            11 => {
+                let slot = self.any_slot();
+                let (at, address) = (self.random.one_of(&[13, 15]), self.any_address());
+                self.set_address(slot + at, address);
+            }
+            12 => {
+                let (at, address) = (self.random.one_of(&[541, 543]), self.any_address());
+                self.set_address(at, address);
+            }
+            13 => {
+                let count = self.any_count();
+                self.set_word(545, count);
+            }
+            14 => self.damage_link(),
+            _ => {
+                // A live slot that is marked as deleted loses its sectors.
+                let slot = self.any_slot();
+                self.pair.poke_image(slot, &[255]);
+            }
+        }
+    }
+
+    /// The size that a slot states, or its byte 23.
+    fn misstate(&mut self) {
+        let slot = self.any_slot();
+        let size = self.any_count();
+        self.set_word(slot + 17, size);
+        let map = self.random.one_of(&[0, 1, 255]);
+        self.pair.poke_image(slot + SLOT_MAP, &[map]);
+    }
+
+    /// A sector of a file, the first or a later one, links into a file, back to itself, into the directory, or astray; sometimes the
+    /// file states its end there.
+    fn cross(&mut self) {
+        let (slot, other) = (self.any_slot(), self.any_slot());
+        let (here, there) = (self.sector_of(slot), self.sector_of(other));
+        let to = match self.random.below(8) {
+            0..=3 => there,
+            4 => here,
+            5 => self.directory_sector(),
+            6 => (0, 0),
+            _ => self.any_address(),
+        };
+        if let Some(at) = self.offset_of(here) {
+            self.set_address(at, to);
+        }
+        if self.random.chance(30) {
+            self.set_address(slot + 15, to);
+        }
+    }
+
+    /// A sector of the file of this slot, as far as its links lead.
+    fn sector_of(&mut self, slot: usize) -> Address {
+        let mut at = address(self.pair.image(), slot + 13);
+        for _ in 0..self.random.below(6) {
+            match self.offset_of(at).map(|offset| address(self.pair.image(), offset)) {
+                Some(next) if self.offset_of(next).is_some() => at = next,
+                _ => break,
+            }
+        }
+        at
+    }
+
+    /// Where a data sector begins.
+    fn offset_of(&self, at: Address) -> Option<usize> {
+        let is_data = (1..=self.last).contains(&(at.0 as usize)) && (1..=self.per).contains(&(at.1 as usize));
+        is_data.then(|| diskettes::offset(self.per, at.0 as usize, at.1 as usize))
     }
 
     /// One thing in a control block that no call would have left so.

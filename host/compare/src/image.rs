@@ -38,9 +38,28 @@ impl Shape {
         (track as usize * self.per as usize + sector as usize - 1) * 256
     }
 
+    pub fn data_sectors(&self) -> usize {
+        self.last as usize * self.per as usize
+    }
+
+    /// The number of a data sector, as the census lists it.
+    pub fn number(&self, (track, sector): Address) -> u16 {
+        (track as u16 - 1) * self.per as u16 + sector as u16 - 1
+    }
+
+    /// Of the sector before which there are this many in the image.
+    pub fn address(&self, sectors: usize) -> Address {
+        ((sectors / self.per as usize) as u8, (sectors % self.per as usize + 1) as u8)
+    }
+
+    /// The data sector of this number.
+    pub fn data_address(&self, number: usize) -> Address {
+        self.address(self.per as usize + number)
+    }
+
     /// How many sectors a directory can have.
     pub fn longest(&self) -> usize {
-        self.per as usize - 4 + self.last as usize * self.per as usize
+        self.per as usize - 4 + self.data_sectors()
     }
 
     fn may_be_the_directorys(&self, (track, sector): Address) -> bool {
@@ -49,8 +68,8 @@ impl Shape {
 
     /// The place of the slot that begins here.
     pub fn place(&self, slot: usize) -> [u8; 3] {
-        let (sector, per) = (slot / 256, self.per as usize);
-        [(sector / per) as u8, (sector % per + 1) as u8, (slot % 256) as u8]
+        let (track, sector) = self.address(slot / 256);
+        [track, sector, (slot % 256) as u8]
     }
 }
 
@@ -120,4 +139,12 @@ fn slots_of(sector: usize) -> impl Iterator<Item = usize> {
 
 pub fn is_live(image: &[u8], slot: usize) -> bool {
     (1..128).contains(&image[slot])
+}
+
+/// Two live slots have equal names.
+pub fn has_twins(image: &[u8], directory: &Directory) -> bool {
+    let live = directory.slots.iter().filter(|&&slot| is_live(image, slot));
+    let mut names: Vec<&[u8]> = live.map(|&slot| &image[slot..slot + 11]).collect();
+    names.sort_unstable();
+    names.windows(2).any(|pair| pair[0] == pair[1])
 }

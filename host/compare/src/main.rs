@@ -1,8 +1,8 @@
 //! Compares the proved archive with the reference, call by call: the answer, and every byte of both buffers.
 //!
 //! First what is tried in full (sweep.rs), then episodes at random until enough calls were made. An episode has a diskette
-//! of its own and one of three moods: calm, where calls alone change it, so that the census must accept it in the end;
-//! rough, where it is damaged now and then; wild, where control blocks are random too. Each has a seed of its own, so that
+//! of its own and one of three moods: calm, where calls alone change it, raw writes only if a repair follows them, so that the
+//! census must accept it in the end; rough, where it is damaged now and then; wild, where control blocks are random too. Each has a seed of its own, so that
 //! a failure is repeated alone and at once.
 
 #![forbid(unsafe_code)]
@@ -12,8 +12,10 @@ mod formatted;
 mod growth;
 mod image;
 mod lent;
+mod mending;
 mod pair;
 mod random;
+mod repaired;
 mod scene;
 mod seen;
 mod surveyed;
@@ -211,6 +213,12 @@ fn step(scene: &mut Scene, mood: Mood) -> Checked<()> {
     };
     if scene.random.chance(20) {
         return scene.what_if();
+    }
+    if scene.random.chance(3) {
+        return scene.service_visit();
+    }
+    if mood != Mood::Calm && scene.random.chance(12) {
+        return if scene.random.chance(70) { scene.raw_write() } else { scene.mend() };
     }
     if scene.random.chance(damage_image) {
         scene.damage_image()?;

@@ -3,9 +3,11 @@
 
 use crate::formatted::Formatted;
 use crate::lent::Lent;
+use crate::random::Random;
+use crate::repaired::Repaired;
 use crate::seen::Seen;
 use crate::surveyed::Surveyed;
-use crate::tally::{row_of_call, Tally, CENSUS, ERROR_TEXT, EXTENSION, FORMAT, PRESET};
+use crate::tally::{row_of_call, Tally, CENSUS, ERROR_TEXT, EXTENSION, FORMAT, PRESET, REPAIR};
 use crate::wanted::Wanted;
 use flex::Held;
 use std::collections::VecDeque;
@@ -21,6 +23,7 @@ pub enum Made {
     Census { image: usize, sectors: usize, owners: usize },
     ErrorText { text: usize, number: u8 },
     Format { image: usize, last: usize, per: usize, label: usize, volume: u16, date: [u8; 3] },
+    Repair { image: usize, table: usize },
 }
 
 /// The two services differ, or do together what they must not.
@@ -211,6 +214,28 @@ impl<'a> Pair<'a> {
             }
             Err(refusal) => Err(self.misdeed(made, &format!("the census refuses a blank diskette: {}", refusal))),
         }
+    }
+
+    /// Repair with an image and a table of these lengths lent. A refusal must change nothing; what an accepted repair leaves must
+    /// be as 02 promises, by the test's own eyes.
+    pub fn repair_lent(&mut self, image: usize, table: usize, random: &mut Random) -> Checked<u32> {
+        let repaired = Repaired::before(self.plain.image.lend(image), self.plain.table.lend(table));
+        let before = self.proved.image.clone();
+        let plain = reference::repair(self.plain.image.lend(image), self.plain.table.lend(table));
+        let proved = flex::entry::repair(self.proved.image.lend(image), self.proved.table.lend(table));
+        let made = Made::Repair { image, table };
+        self.compare(made, plain, proved)?;
+        if plain != 0 && before != self.proved.image {
+            return Err(self.misdeed(made, "a repair was refused and changed the image"));
+        }
+        if plain == 0 {
+            if let Some(fault) = repaired.fault(self.proved.image.lend(image), random) {
+                return Err(self.misdeed(made, &fault));
+            }
+        }
+        self.tally.count(REPAIR, plain);
+        self.tally.note_repair(&repaired, plain);
+        Ok(plain)
     }
 
     /// The answers, then both buffers whole.

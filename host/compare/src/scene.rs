@@ -47,6 +47,9 @@ const EDGES: &[u8] = b"\0-/09:@AZ[^_`az{\x7f\x80\xff";
 /// Where a slot has its attributes: it stands in a block from the name on.
 pub const SLOT_ATTRIBUTES: usize = ATTRIBUTES - NAME;
 
+/// Where a slot has byte 23 of a block.
+pub const SLOT_MAP: usize = 23 - NAME;
+
 /// The activities of a block in which no file is open.
 pub const IDLE: &[u8] = &[0, 16];
 
@@ -348,6 +351,12 @@ impl<'a> Scene<'a> {
             8 => self.random.between(7, 100),
             _ => self.random.between(1, 600),
         }
+    }
+
+    /// Repair with the blocks as they are.
+    pub fn repair(&mut self) -> Checked<u32> {
+        let (image, table) = (self.pair.image().len(), self.pair.table().len());
+        self.pair.repair_lent(image, table, &mut self.random)
     }
 
     pub fn census(&mut self) -> Checked<u32> {

@@ -495,7 +495,7 @@ pub const CALL_SITUATIONS: &[(&str, Met)] = &[
     ("close: index 0 asks nothing of the position", |a| {
         a.before.is(4, 2) && a.answer == 0 && !a.before.position_fits() && a.before.index == 0
     }),
-    // 7, 9
+    // 7
     ("next slot: the first", |a| a.before.code == 7 && a.answer == 0 && a.before.place == [0, 0, 0]),
     ("next slot: in the same sector", |a| {
         a.before.code == 7 && a.answer == 0 && a.before.place[..2] == a.place[..2] && a.place[0] == 0
@@ -529,6 +529,48 @@ pub const CALL_SITUATIONS: &[(&str, Met)] = &[
         a.before.code == 7 && a.answer == 5 && a.before.place == [0, 0, 0]
     }),
     ("next slot: not between slots", |a| a.before.code == 7 && a.answer == 5 && a.before.place[..2] == [0, 5]),
+    // 8, 10
+    ("put slot: on track 0", |a| a.before.code == 8 && a.answer == 0 && a.before.place[0] == 0),
+    ("put slot: in a sector that the directory has taken", |a| a.is_in_taken(8)),
+    ("put slot: before any was shown", |a| a.before.is(8, 16) && a.answer == 5 && a.before.place == [0, 0, 0]),
+    ("put slot: not between slots", |a| {
+        a.before.is(8, 16) && a.answer == 5 && a.before.directory.ends == Ends::Right && a.before.place != [0, 0, 0]
+    }),
+    ("put slot: a slot of a directory that is not right", |a| {
+        a.before.is(8, 16)
+            && a.answer == 5
+            && a.before.directory.ends != Ends::Right
+            && a.before.is_slot(a.before.place)
+    }),
+    ("put slot: another block reads there", |a| a.before.code == 8 && a.answer == 0 && a.others.contains(&1)),
+    ("put slot: another block writes there", |a| a.before.code == 8 && a.answer == 0 && a.others.contains(&2)),
+    ("write sector: from a closed block", |a| a.before.is(10, 0) && a.answer == 0),
+    ("write sector: from a directory block", |a| a.before.is(10, 16) && a.answer == 0),
+    ("write sector: a boot sector", |a| a.before.code == 10 && a.answer == 0 && a.before.position == (0, 1)),
+    ("write sector: the information record", |a| a.before.code == 10 && a.answer == 0 && a.before.position == (0, 3)),
+    ("write sector: the directory's first", |a| a.before.code == 10 && a.answer == 0 && a.before.position == (0, 5)),
+    ("write sector: one that the directory has taken", |a| {
+        let is_directorys = a.before.directory.sectors.contains(&a.before.position);
+        a.before.code == 10 && a.answer == 0 && is_directorys && a.before.position.0 > 0
+    }),
+    ("write sector: the last", |a| {
+        let last = a.before.shape.map_or(NONE, |shape| (shape.last, shape.per));
+        a.before.code == 10 && a.answer == 0 && a.before.position == last
+    }),
+    ("write sector: first free", |a| {
+        a.before.code == 10 && a.answer == 0 && a.before.count > 0 && a.before.position == a.before.first
+    }),
+    ("write sector: while another block writes", |a| a.before.code == 10 && a.answer == 0 && a.another_writes),
+    ("write sector: 0,0 refused", |a| a.before.is(10, 0) && a.answer == 10 && a.before.position == NONE),
+    ("write sector: a sector over S refused", |a| {
+        let next = a.before.shape.map_or(NONE, |shape| (shape.last, shape.per + 1));
+        a.before.code == 10 && a.answer == 10 && a.before.position == next
+    }),
+    ("write sector: a track over M refused", |a| {
+        let next = a.before.shape.map_or(NONE, |shape| (shape.last + 1, 1));
+        a.before.code == 10 && a.answer == 10 && a.before.position == next
+    }),
+    // 9
     ("read sector: on track 0", |a| a.before.code == 9 && a.answer == 0 && a.before.position.0 == 0),
     ("read sector: the last", |a| {
         let last = a.before.shape.map_or(NONE, |shape| (shape.last, shape.per));

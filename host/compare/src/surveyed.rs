@@ -1,6 +1,6 @@
 //! Situations of the census: what the test looks at before it is taken.
 
-use crate::image::{address, is_live, word, Address, Directory, Ends, Shape, NONE};
+use crate::image::{address, has_twins, is_live, word, Address, Directory, Ends, Shape, NONE};
 
 /// Looked at before a census.
 pub struct Surveyed {
@@ -38,11 +38,11 @@ impl Surveyed {
             twin_in_taken: names.windows(2).any(|pair| pair[0].0 == pair[1].0 && pair[1].1 > 0),
             directory_is_free: free.2 > 0 && taken.contains(&free.0),
             directory_is_a_files: files.iter().any(|file| file.2 > 0 && taken.contains(&file.0)),
-            twins: names.windows(2).any(|pair| pair[0].0 == pair[1].0),
+            twins: has_twins(image, &directory),
             directory,
             free,
             files,
-            data_sectors: shape.last as u32 * shape.per as u32,
+            data_sectors: shape.data_sectors() as u32,
         })
     }
 

@@ -1,8 +1,9 @@
-//! What is tried in full and not at random: the directory that grows (growth.rs), every shape, formatted, and every shape just past the limits, every function code,
-//! every byte in every place of a name, every directory place, every attribute byte, every offset of preset, every code of a
+//! What is tried in full and not at random: the directory that grows (growth.rs), raw writing and repair (mending.rs), every shape,
+//! formatted, and every shape just past the limits, every function code, every byte in every place of a name, every directory place, every attribute byte, every offset of preset, every code of a
 //! default extension, every number and length of the error text; of format also wrong numbers and lengths of many kinds.
 
 use crate::growth;
+use crate::mending;
 use crate::pair::{Checked, Pair};
 use crate::random::Random;
 use crate::scene::{Scene, SLOT_ATTRIBUTES};
@@ -10,7 +11,7 @@ use crate::tally::Tally;
 use crate::wanted::{no_last_tracks, no_per_tracks, Wanted, LABEL, NO_LABELS};
 use flex::{
     Steps, ACTIVITY, BLOCK, CLOSE, DELETE, EXTENSION, INDEX, NAME, NEW_NAME, NEXT_BYTE, NEXT_SLOT, OPEN_DIRECTORY,
-    OPEN_READ, OPEN_WRITE, PLACE, POSITION, READ_SECTOR, RENAME, SECTOR, TABLE,
+    OPEN_READ, OPEN_WRITE, PLACE, POSITION, PUT_SLOT, READ_SECTOR, RENAME, SECTOR, TABLE, WRITE_SECTOR,
 };
 
 pub fn everything(tally: &mut Tally, seed: u64) -> Checked<()> {
@@ -25,6 +26,7 @@ pub fn everything(tally: &mut Tally, seed: u64) -> Checked<()> {
     formats(tally, &mut random)?;
     past_the_limits(tally, &mut random)?;
     growth::everything(tally)?;
+    mending::everything(tally, &mut random)?;
     shapes(tally, &mut random)
 }
 
@@ -74,7 +76,7 @@ fn letters(tally: &mut Tally) -> Checked<()> {
     Ok(())
 }
 
-/// Every value of each byte of a directory place, for the next slot, a sector to take and a close of an unwritten file.
+/// Every value of each byte of a directory place, for the next slot, a slot to put, a sector to take and a close of an unwritten file.
 fn places(tally: &mut Tally) -> Checked<()> {
     let mut pair = small(tally);
     for right in [[0, 5, 16], [0, 7, 232], [0, 0, 0]] {
@@ -82,7 +84,7 @@ fn places(tally: &mut Tally) -> Checked<()> {
             for value in 0..=255 {
                 let mut place = right;
                 place[at] = value;
-                for start in [[NEXT_SLOT, 0, 16], [NEXT_BYTE, 0, 2], [CLOSE, 0, 2]] {
+                for start in [[NEXT_SLOT, 0, 16], [PUT_SLOT, 0, 16], [NEXT_BYTE, 0, 2], [CLOSE, 0, 2]] {
                     pair.poke_table(0, &[0; BLOCK]);
                     pair.poke_table(0, &start);
                     pair.poke_table(PLACE, &place);
@@ -201,19 +203,20 @@ fn past_the_limits(tally: &mut Tally, random: &mut Random) -> Checked<()> {
             image[551] = per as u8;
         }
         let mut pair = Pair::new(&image, &[0; TABLE], tally);
-        for code in [0, 1, 2, 3, 4, 5, 6, 7, 9, 12, 13] {
+        for code in 0..=13 {
             pair.poke_table(0, &[code]);
             pair.call(0, 0)?;
         }
         let bytes = 2 * last * per;
         pair.census_lent(image.len(), bytes, bytes, 1)?;
+        pair.repair_lent(image.len(), TABLE, random)?;
         pair.format_lent(image.len(), &Wanted::of(random, last, per))?;
     }
     Ok(())
 }
 
 /// Every diskette, formatted over an image in which every byte was in use: a file, the last sector and the ones that do not
-/// exist, the end of the directory, the census.
+/// exist, the end of the directory, the census; what was done to its free chain is repaired.
 fn shapes(tally: &mut Tally, random: &mut Random) -> Checked<()> {
     for last in 1..=79 {
         for per in 5..=36 {
@@ -247,11 +250,14 @@ fn shape(scene: &mut Scene) -> Checked<()> {
     for address in [(last, per), (last, per + 1), (last + 1, 1), (last, 0), (0, per), (0, 1)] {
         scene.set_block_address(1, POSITION, address);
         scene.ask(1, READ_SECTOR)?;
+        scene.ask(1, WRITE_SECTOR)?;
     }
     scene.ask(2, OPEN_DIRECTORY)?;
     scene.set_block(2, PLACE, &[0, per, 232]);
     scene.ask(2, NEXT_SLOT)?;
     scene.set_block(0, ACTIVITY, &[0]);
+    scene.ask(2, CLOSE)?;
+    scene.repair()?;
     scene.ask(0, DELETE)?;
     scene.census()?;
     Ok(())

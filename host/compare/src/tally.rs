@@ -1,18 +1,20 @@
 //! What the run has reached: each answer of each function, and the situations that are easy to get wrong.
 
 use crate::formatted::{Formatted, FORMAT_SITUATIONS};
+use crate::repaired::{Repaired, REPAIR_SITUATIONS};
 use crate::seen::{After, CALL_SITUATIONS};
 use crate::surveyed::{Surveyed, CENSUS_SITUATIONS};
 use flex::{ACTIVITY, FUNCTION};
 use std::fmt::Write;
 
 /// Each function with every answer that documents 01 and 02 let it give, in their order: each must occur, and no other may.
-const EXPECTED: [(&str, &[u32]); 19] = [
+const EXPECTED: [(&str, &[u32]); 22] = [
     ("preset", &[13, 18, 0]),
     ("default extension", &[13, 0]),
     ("error text", &[40, 0]),
     ("census", &[41, 40, 42, 43, 44, 45, 46, 0]),
     ("format", &[41, 40, 0]),
+    ("repair", &[13, 2, 41, 42, 43, 0]),
     ("call, no such table or block", &[13]),
     ("call, code not served", &[16, 1]),
     ("0 reading", &[16, 8, 9, 0]),
@@ -24,7 +26,9 @@ const EXPECTED: [(&str, &[u32]); 19] = [
     ("5 rewind", &[16, 18, 0]),
     ("6 open directory", &[16, 18, 0]),
     ("7 next slot", &[16, 18, 5, 8, 0]),
+    ("8 put slot", &[16, 18, 5, 0]),
     ("9 read sector", &[16, 18, 9, 0]),
+    ("10 write sector", &[16, 18, 10, 0]),
     ("12 delete", &[16, 18, 21, 5, 4, 2, 12, 11, 9, 0]),
     ("13 rename", &[16, 18, 21, 5, 4, 2, 11, 3, 0]),
 ];
@@ -34,27 +38,30 @@ pub const EXTENSION: usize = 1;
 pub const ERROR_TEXT: usize = 2;
 pub const CENSUS: usize = 3;
 pub const FORMAT: usize = 4;
+pub const REPAIR: usize = 5;
 
 /// The row of an FMS call, by the block as the call finds it.
 pub fn row_of_call(table: &[u8], fcb: usize) -> usize {
     if table.len() != flex::TABLE || fcb >= flex::BLOCKS {
-        return 5;
+        return 6;
     }
     let block = &table[fcb * flex::BLOCK..];
     match (block[FUNCTION], block[ACTIVITY]) {
-        (0, 1) => 7,
-        (0, 2) => 8,
-        (0, _) => 9,
-        (1, _) => 10,
-        (2, _) => 11,
-        (4, _) => 12,
-        (5, _) => 13,
-        (6, _) => 14,
-        (7, _) => 15,
-        (9, _) => 16,
-        (12, _) => 17,
-        (13, _) => 18,
-        _ => 6,
+        (0, 1) => 8,
+        (0, 2) => 9,
+        (0, _) => 10,
+        (1, _) => 11,
+        (2, _) => 12,
+        (4, _) => 13,
+        (5, _) => 14,
+        (6, _) => 15,
+        (7, _) => 16,
+        (8, _) => 17,
+        (9, _) => 18,
+        (10, _) => 19,
+        (12, _) => 20,
+        (13, _) => 21,
+        _ => 7,
     }
 }
 
@@ -65,6 +72,7 @@ pub struct Tally {
     call_situations: Vec<u64>,
     census_situations: Vec<u64>,
     format_situations: Vec<u64>,
+    repair_situations: Vec<u64>,
 }
 
 impl Tally {
@@ -75,6 +83,7 @@ impl Tally {
             call_situations: vec![0; CALL_SITUATIONS.len()],
             census_situations: vec![0; CENSUS_SITUATIONS.len()],
             format_situations: vec![0; FORMAT_SITUATIONS.len()],
+            repair_situations: vec![0; REPAIR_SITUATIONS.len()],
         }
     }
 
@@ -95,6 +104,10 @@ impl Tally {
         count_met(&mut self.format_situations, FORMAT_SITUATIONS, |met| met(formatted, answer));
     }
 
+    pub fn note_repair(&mut self, repaired: &Repaired, answer: u32) {
+        count_met(&mut self.repair_situations, REPAIR_SITUATIONS, |met| met(repaired, answer));
+    }
+
     /// Answers by function, as "answer ×count".
     pub fn answers(&self) -> String {
         let mut text = String::new();
@@ -112,7 +125,8 @@ impl Tally {
         let of_calls = counted(&self.call_situations, CALL_SITUATIONS);
         let of_census = counted(&self.census_situations, CENSUS_SITUATIONS);
         let of_format = counted(&self.format_situations, FORMAT_SITUATIONS);
-        of_calls.chain(of_census).chain(of_format)
+        let of_repair = counted(&self.repair_situations, REPAIR_SITUATIONS);
+        of_calls.chain(of_census).chain(of_format).chain(of_repair)
     }
 
     /// Each situation with its count.

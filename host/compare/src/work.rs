@@ -1,17 +1,21 @@
-//! What a host does: files written, read, deleted and renamed, the directory walked, the diskette formatted, and calls with wrong
-//! lengths and numbers.
+//! What a host does: files written, read, deleted and renamed, the directory walked, the diskette formatted and repaired, sectors and
+//! slots written raw, and calls with wrong lengths and numbers.
 
 use crate::image::is_live;
 use crate::pair::Checked;
 use crate::scene::{Scene, IDLE, SLOT_ATTRIBUTES};
 use crate::wanted::{no_last_tracks, no_per_tracks, Wanted, LABEL, NO_LABELS};
 use flex::{
-    Steps, ACTIVITY, BLOCK, BLOCKS, CLOSE, DELETE, DRIVE, EXTENSION, NAME, NEW_NAME, NEXT_SLOT, OPEN_DIRECTORY,
-    OPEN_WRITE, POSITION, READ_SECTOR, RENAME, REWIND, TABLE,
+    Steps, ACTIVITY, ATTRIBUTES, BLOCK, BLOCKS, BUFFER, CLOSE, DELETE, DRIVE, END, EXTENSION, FUNCTION, NAME, NEW_NAME,
+    NEXT_SLOT, OPEN_DIRECTORY, OPEN_WRITE, POSITION, PUT_SLOT, READ_SECTOR, RENAME, REWIND, SECTOR, SIZE, START, TABLE,
+    WRITE_SECTOR,
 };
 
 /// Numbers of blocks that do not exist; some of them times 320 wrap around to a small number.
 const NO_BLOCKS: [usize; 7] = [8, 9, 255, 256, usize::MAX, usize::MAX / BLOCK + 1, 1 << 32];
+
+/// The functions that write raw.
+const RAW: [u8; 2] = [PUT_SLOT, WRITE_SECTOR];
 
 /// Offsets and codes past every limit.
 const PAST: [usize; 6] = [320, 65536, 1 << 32, (1 << 32) + 4, usize::MAX, usize::MAX - BLOCK + 1];
@@ -19,7 +23,7 @@ const PAST: [usize; 6] = [320, 65536, 1 << 32, (1 << 32) + 4, usize::MAX, usize:
 impl Scene<'_> {
     /// One thing that a host would do.
     pub fn work(&mut self) -> Checked<()> {
-        match self.random.below(39) {
+        match self.random.below(40) {
             0..=5 => self.write_file(),
             6..=8 => self.write_on(),
             9..=12 => self.read_file(),
@@ -38,6 +42,7 @@ impl Scene<'_> {
             33 => self.protect(),
             34 => self.begin_anew(),
             35 => self.wrong_lengths(),
+            36 => self.tidy(),
             _ => self.crowd(),
         }
     }
@@ -181,12 +186,126 @@ impl Scene<'_> {
         if self.random.chance(60) {
             return self.wrong_format();
         }
+        self.close_all()?;
+        self.format()
+    }
+
+    fn close_all(&mut self) -> Checked<()> {
         for fcb in 0..BLOCKS {
             if self.activity(fcb) != 0 {
                 self.ask(fcb, CLOSE)?;
             }
         }
-        self.format()
+        Ok(())
+    }
+
+    /// A repair as a host asks for it: after it has closed all blocks.
+    fn tidy(&mut self) -> Checked<()> {
+        self.close_all()?;
+        self.repair()?;
+        Ok(())
+    }
+
+    /// After a restart, when all blocks are closed; sometimes one is not, and sometimes with wrong lengths.
+    pub fn mend(&mut self) -> Checked<()> {
+        for fcb in 0..BLOCKS {
+            self.set_block(fcb, ACTIVITY, &[0]);
+        }
+        if self.random.chance(10) {
+            let (fcb, activity) = (self.random.below(BLOCKS), self.random.one_of(&[1, 2, 16, 3]));
+            self.set_block(fcb, ACTIVITY, &[activity]);
+        }
+        if self.random.chance(20) {
+            let (image, table) = (self.image_length(), self.table_length());
+            self.pair.repair_lent(image, table, &mut self.random)?;
+        }
+        self.repair()?;
+        Ok(())
+    }
+
+    /// Service staff come: raw writes, other work on what they leave, a restart and a repair. Where that is refused, or the diskette has
+    /// another shape by then, it is put back from a copy.
+    pub fn service_visit(&mut self) -> Checked<()> {
+        let before = self.snapshot();
+        for _ in 0..self.random.between(1, 3) {
+            self.raw_write()?;
+        }
+        for _ in 0..self.random.below(3) {
+            self.work()?;
+        }
+        for fcb in 0..BLOCKS {
+            self.set_block(fcb, ACTIVITY, &[0]);
+        }
+        let is_repaired = self.repair()? == 0;
+        if !is_repaired || self.pair.image()[550..552] != [self.last as u8, self.per as u8] {
+            self.restore(before);
+        }
+        Ok(())
+    }
+
+    /// One raw write: a slot that was shown or not, with some bytes changed; or a sector, one that was read and changed, or any bytes.
+    pub fn raw_write(&mut self) -> Checked<()> {
+        let (any, idle) = (self.random.below(BLOCKS), self.block_with(IDLE));
+        let fcb = if self.random.chance(10) { any } else { idle };
+        if self.random.chance(50) {
+            return self.put_slot(fcb);
+        }
+        let address = self.any_address();
+        self.preset_all(fcb, POSITION, &[address.0, address.1])?;
+        if self.random.chance(80) {
+            self.ask(fcb, READ_SECTOR)?;
+        }
+        let link = self.any_address();
+        match self.random.below(4) {
+            0..=1 => self.preset_all(fcb, BUFFER, &[link.0, link.1])?,
+            2 => {
+                let (at, byte) = (self.random.below(SECTOR), self.random.byte());
+                self.preset_all(fcb, BUFFER + at, &[byte])?;
+            }
+            _ => {
+                let mut bytes = [0; SECTOR];
+                self.random.fill(&mut bytes);
+                self.set_block(fcb, BUFFER, &bytes);
+            }
+        }
+        self.ask(fcb, WRITE_SECTOR)?;
+        Ok(())
+    }
+
+    fn put_slot(&mut self, fcb: usize) -> Checked<()> {
+        if self.activity(fcb) != 16 || self.random.chance(50) {
+            self.ask(fcb, OPEN_DIRECTORY)?;
+        }
+        for _ in 0..self.random.below(5) {
+            self.ask(fcb, NEXT_SLOT)?;
+        }
+        match self.random.below(5) {
+            0 => {
+                let name = self.any_name();
+                self.preset_all(fcb, NAME, name.bytes())?;
+            }
+            1 => {
+                let attributes = self.random.one_of(&[0, 32, 64, 128]);
+                self.preset_all(fcb, ATTRIBUTES, &[attributes])?;
+            }
+            2 => {
+                let (at, address) = (self.random.one_of(&[START, END]), self.any_address());
+                self.preset_all(fcb, at, &[address.0, address.1])?;
+            }
+            3 => {
+                let size = self.any_count().to_be_bytes();
+                self.preset_all(fcb, SIZE, &size)?;
+            }
+            _ => {
+                let first = self.random.one_of(&[0, 1, 127, 128, 255]);
+                self.preset_all(fcb, NAME, &[first])?;
+            }
+        }
+        self.ask(fcb, PUT_SLOT)?;
+        if self.random.chance(50) {
+            self.ask(fcb, CLOSE)?;
+        }
+        Ok(())
     }
 
     /// The diskette or the directory until it is full.
@@ -238,7 +357,7 @@ impl Scene<'_> {
     fn fiddle(&mut self) -> Checked<()> {
         let fcb = self.random.below(BLOCKS);
         for _ in 0..self.random.between(1, 4) {
-            let offset = self.random.below(80);
+            let offset = self.random.below(BLOCK + 10);
             let value = self.random.byte();
             // The drive is put right again, or every later call on the block would be refused for it.
             self.pair.preset(fcb, offset, if offset == DRIVE { 0 } else { value })?;
@@ -251,7 +370,8 @@ impl Scene<'_> {
         Ok(())
     }
 
-    /// Any code on any block, and sometimes another drive for this one call.
+    /// Any code on any block, and sometimes another drive for this one call. Not the raw writes, after which a calm diskette would not
+    /// be sound any more.
     pub fn any_function(&mut self) -> Checked<()> {
         let fcb = self.random.below(BLOCKS);
         let other_drive = self.random.chance(25);
@@ -260,9 +380,9 @@ impl Scene<'_> {
             self.set_block(fcb, DRIVE, &[drive]);
         }
         let any = self.random.byte();
-        let code = self
-            .random
-            .one_of(&[0, 1, 2, 4, 5, 6, 7, 9, 12, 13, 0, 1, 2, 4, 5, 6, 7, 9, 12, 13, 3, 8, 10, 11, 14, any]);
+        let any = if RAW.contains(&any) { 3 } else { any };
+        let code =
+            self.random.one_of(&[0, 1, 2, 4, 5, 6, 7, 9, 12, 13, 0, 1, 2, 4, 5, 6, 7, 9, 12, 13, 3, 11, 14, any]);
         self.ask(fcb, code)?;
         if other_drive {
             self.set_block(fcb, DRIVE, &[0]);
@@ -289,7 +409,10 @@ impl Scene<'_> {
             let byte = self.random.byte();
             let offset = self.random.below(64);
             let past = self.random.one_of(&PAST);
-            self.pair.call_lent(image, table, fcb, byte)?;
+            // Not all lengths are wrong: a raw write that stands in the block would be made.
+            if fcb >= BLOCKS || !RAW.contains(&self.block(fcb)[FUNCTION]) {
+                self.pair.call_lent(image, table, fcb, byte)?;
+            }
             self.pair.preset_lent(table, fcb, if offset == 3 { past } else { offset }, byte)?;
             self.pair.extension_lent(table, fcb, if offset < 16 { offset } else { past })?;
         }

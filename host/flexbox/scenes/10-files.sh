@@ -218,15 +218,21 @@ for zone in EAST-14 WEST+12 UTC0; do
     grep TODAY.TXT out | grep -qF -e "$before" -e "$after" || fail "TZ=$zone: not today: $(grep TODAY.TXT out)"
 done
 
-# ---- the main job, told step by step: a new diskette is filled, and a file comes and goes on one that is in use
+# ---- the main job, told step by step: a new diskette is filled, a file comes and goes on one that is in use, a damaged one is repaired
 fresh
-does demo disk new
+does demo disk new damaged
 [ "$(sed -n 3p out)" = "new: blank, 3 tracks of 6 sectors, 4608 bytes, 12 sectors free" ] || fail "not formatted: $(cat out)"
 shows "3 files in 20 slots; 0 deleted, 17 never used"
 shows ".  free          0 sectors"
 [ "$(grep -c ' bytes, as they were written$' out)" = 3 ] || fail "not read back: $(cat out)"
 shows "02:15 CREW AT AMPLIFIER 14"
 [ "$(grep -c 'NIGHT.TXT' out)" = 5 ] || fail "NIGHT.TXT is not listed, drawn and gone again: $(cat out)"
+shows "damaged: DAMAGED, 2 findings: DISK ERROR #046: a sector is in no chain, or in two"
+[ "$(grep -c 'cut from 2 to 1 sector: ' out)" = 2 ] || fail "not told before and at the repair: $(cat out)"
+shows "damaged: repaired; the old image is damaged.before"
+[ "$(tail -n 1 out)" = ".  free          20 sectors" ] || fail "not found again: $(tail -n 1 out)"
+does check damaged
+ends 1 "DISK ERROR #046" census damaged.before
 does list disk
 hides NIGHT.TXT
 does check disk
@@ -236,10 +242,16 @@ does get --trim new WEST.TXT
 [ "$(wc -c <out)" = 200 ] || fail "WEST.TXT has $(wc -c <out) bytes"
 [ "$(head -n 1 out)" = "00:00 WEST AMPLIFIER 1 LEVEL LOW" ] || fail "WEST.TXT begins with $(head -n 1 out)"
 cp new new.before
-refuses 3 "flexbox: new: it is there already; demo needs a NEW that is not there yet" demo disk new
+refuses 3 "flexbox: new: it is there already; demo needs a NEW that is not there yet" demo disk new other
 cmp new new.before
+refuses 3 "flexbox: damaged: it is there already; demo needs a DAMAGED that is not there yet" demo disk other damaged
+[ ! -e other ] || fail "a refused demo made a file"
+does format --tracks 2 --sectors 5 empty
+does demo empty other another
+[ "$(tail -n 1 out)" = "It has no two files that could share a sector, so no repair is shown." ] || fail "it says: $(tail -n 1 out)"
+[ ! -e another ] || fail "a copy was made for no accident"
 ln -s nowhere link
 for new in . /dev/null link disk; do
-    refuses 3 "flexbox: $new: it is there already; demo needs a NEW that is not there yet" demo disk $new
+    refuses 3 "flexbox: $new: it is there already; demo needs a NEW that is not there yet" demo disk $new another
 done
 [ -L link ] && [ ! -e nowhere ] || fail "a link that leads nowhere was followed or replaced"

@@ -121,11 +121,41 @@ if [ -n "$witness" ]; then
     # ---- so does one that comes to where demo is about to put its own
     fresh
     cp "$demo" other
-    witnessed WITNESS_AT_MOVE="other new" -- demo disk new
+    witnessed WITNESS_AT_MOVE="other new" -- demo disk new damaged
     ended 3
     says "flexbox: new: another file was put there meanwhile; not made"
     cmp new "$demo"
     cmp disk "$demo"
+
+    # ---- an image that is written to in place, after it was read and up to the moment when it is replaced, stays so: what was
+    # stored there is not lost, and no old image is kept
+    # stored COUNT ARGUMENT..: a command on 'old' by COUNT calls before the rename
+    stored() {
+        local i
+        for ((i = 1; i <= $1; i++)); do
+            cp old disk
+            witnessed WITNESS_STORE=$i -- "${@:2}"
+            ended 3
+            says "flexbox: disk: changed meanwhile by another program; nothing is written"
+            printf '!' | cat - <(tail -c +2 old) | cmp - disk
+            [ ! -e disk.before ] || fail "kept though nothing was changed: ${*:2}"
+            left=$(find . -name '*.new')
+            [ -z "$left" ] || fail "left behind: $left"
+        done
+    }
+    fresh
+    cp disk old
+    stored 2 put disk NEW.TXT=lines
+    stored 2 delete disk NORTH.TXT
+    stored 2 rename disk NORTH.TXT NEW.TXT
+    fresh
+    patch "$(sector 1 6)" 0 0
+    cp disk old
+    stored 6 repair disk
+    # format --replace has not read it, whatever it holds
+    witnessed WITNESS_STORE=1 -- format --replace disk
+    ended 0
+    does check disk
 
     # ---- on a file system without locks one looks all the same, and changes nothing
     fresh

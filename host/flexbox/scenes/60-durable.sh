@@ -50,12 +50,12 @@ if [ -n "$witness" ]; then
     fresh
     cp disk old
 
-    # ---- locked, read, a new file made that nobody else may read, written, synced, renamed while the old one is locked, the
-    # folder synced, and nothing else
+    # ---- locked, read, a new file made that nobody else may read, written, synced, the old one read again, the new one renamed
+    # while the old one is locked, the folder synced, and nothing else
     does delete disk NORTH.TXT
     cp disk new
     whole old 3 4 delete disk NORTH.TXT
-    calls_are "open disk lock disk read disk open $folder make 600 NEW write NEW sync NEW rename disk sync $folder"
+    calls_are "open disk lock disk read disk open $folder make 600 NEW write NEW sync NEW read disk rename disk sync $folder"
 
     # ---- format --replace does the same without reading it
     does format --replace --date 12-03-81 disk
@@ -69,6 +69,86 @@ if [ -n "$witness" ]; then
     whole "" 4 6 WITNESS_NO_MOVES=1 format --date 12-03-81 disk
     calls_are "open . make 666 NEW write NEW sync NEW move disk link disk remove NEW sync $folder"
     [ "$(stat -c %h disk)" = 1 ] || fail "the new image has two names"
+
+    # ---- repair keeps the old image first, by a rename that replaces nothing, synced, and only then puts the new one in place. Cut at any
+    # moment, it leaves the old image or the new one, and the old one beside it before it is gone; where it fails, no second old one stays
+    # kept COUNT: after so many of its calls the old image is there under both names, and no more
+    kept() {
+        if [ "$1" -ge 3 ]; then cmp disk.before old; else [ ! -e disk.before ] || fail "kept after $1 calls"; fi
+    }
+    begin ""
+    fresh
+    patch "$(sector 1 6)" 0 0
+    cp disk old
+    ends 1 "" repair --dry-run disk
+    status=0
+    "${flexbox[@]}" repair disk >out || status=$?
+    [ "$status" = 1 ] || fail "status $status after a repair"
+    cp disk new
+    rm disk.before
+    for i in 1 2 3 4 5 6 7 8; do
+        there=old
+        [ $i -le 7 ] || there=new
+        begin old
+        rm -f disk.before
+        witnessed WITNESS_STOP=$i -- repair disk
+        [ "$status" = 99 ] || fail "a repair was not cut before call $i"
+        is $there
+        kept $((i - 1))
+        begin old
+        rm -f disk.before
+        witnessed WITNESS_FAIL=$i -- repair disk
+        [ "$status" = 3 ] || fail "status $status after call $i of a repair failed"
+        is $there
+        left=$(find . -name '*.new')
+        [ -z "$left" ] || fail "left behind by repair: $left"
+        if [ $i = 8 ]; then
+            cmp disk.before old
+            says "the new image is in place, but its folder could not be synced: Input/output error (os error 5); the old image is disk.before"
+        else
+            [ ! -e disk.before ] || fail "kept though call $i failed"
+        fi
+    done
+    begin old
+    rm -f disk.before
+    witnessed WITNESS_FAIL=1 -- repair disk
+    says "flexbox: disk: not changed, since the old image is not kept: the new image could not be written beside it: No space left"
+    witnessed WITNESS_FAIL=5 -- repair disk
+    says "flexbox: disk: not changed: the new image could not be written beside it: No space left"
+    witnessed -- repair disk
+    [ "$status" = 1 ] || fail "status $status after a repair under the witness"
+    is new
+    calls_are "open disk lock disk read disk open . make 600 NEW write NEW sync NEW read disk move disk.before sync $folder open $folder make 600 NEW write NEW sync NEW read disk rename disk sync $folder"
+    rm disk.before
+    # ---- a repair that a cut broke off between the two is made again, and keeps the old image once more
+    begin old
+    witnessed WITNESS_STOP=5 -- repair disk
+    witnessed -- repair disk
+    is new
+    cmp disk.before old
+    cmp disk.before-2 old
+    rm disk.before disk.before-2
+    # ---- and a file that comes to the name of the old image meanwhile stays
+    begin old
+    echo another >other
+    witnessed WITNESS_AT_MOVE="other disk.before" -- repair disk
+    [ "$status" = 3 ] || fail "status $status where the name was taken meanwhile"
+    says "flexbox: disk.before: another file was put there meanwhile; the old image is not kept, nor changed"
+    is old
+    [ "$(cat disk.before)" = another ] || fail "another's file is lost"
+    rm disk.before
+    # ---- on a file system without a rename that replaces nothing, too
+    begin old
+    witnessed WITNESS_NO_MOVES=1 -- repair disk
+    [ "$status" = 1 ] || fail "status $status without such a rename"
+    is new
+    cmp disk.before old
+    [ "$(stat -c %h disk.before)" = 1 ] || fail "the old image has two names"
+    rm disk.before
+    cp "$demo" old
+    begin old
+    does format --replace --date 12-03-81 disk
+    cp disk new
 
     # ---- where the first name can't be removed, the image is in place and synced all the same; it is not changed before it has one
     # name again, and that is what is said

@@ -9,8 +9,10 @@ pub enum Failure {
     Usage(String),
     /// The service or its census refused: by what, and what was asked.
     Refused(Refusal, String),
-    /// Refused or damaged, and all that there is to say has been said.
+    /// Refused or damaged, by now repaired too, and all that there is to say has been said.
     Shown,
+    /// A damaged diskette was not repaired.
+    Unrepaired(String),
     /// A file of this machine can't be read, or may not be written.
     File(String),
     /// Another program holds the image.
@@ -21,7 +23,7 @@ impl Failure {
     pub fn status(&self) -> u8 {
         match self {
             Failure::Refused(..) | Failure::Shown => 1,
-            Failure::Usage(_) => 2,
+            Failure::Usage(_) | Failure::Unrepaired(_) => 2,
             Failure::File(_) => 3,
             Failure::Locked(_) => 4,
         }
@@ -32,7 +34,9 @@ impl Failure {
             Failure::Refused(refusal, what) => {
                 tell(&format!("{}: {} ({})", flex::message(refusal.number()), refusal.meaning(), what))
             }
-            Failure::Usage(text) | Failure::File(text) | Failure::Locked(text) => note(text),
+            Failure::Usage(text) | Failure::Unrepaired(text) | Failure::File(text) | Failure::Locked(text) => {
+                note(text)
+            }
             Failure::Shown => {}
         }
     }

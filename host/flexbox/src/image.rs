@@ -2,7 +2,8 @@
 //!
 //! The lock is flock's, on the image file itself: shared to look, exclusive from before a change is read until after the new
 //! image is in place. A change renames a new file over the old one, so whoever waits opens the path anew for each try, and looks,
-//! once the lock is had, whether the path still leads to that file.
+//! once the lock is had, whether the path still leads to that file. Not everybody asks for the lock: so what was read is read again
+//! just before it is replaced.
 
 use crate::failure::{note, Failure};
 use crate::input;
@@ -10,7 +11,7 @@ use crate::replace;
 use posix::Lock;
 use std::fmt::Display;
 use std::fs::{self, File, Metadata, OpenOptions};
-use std::io;
+use std::io::{self, Seek, SeekFrom};
 use std::os::unix::fs::{MetadataExt, OpenOptionsExt};
 use std::path::{Path, PathBuf};
 use std::thread;
@@ -28,6 +29,8 @@ pub struct Image {
     /// Without links: this is what is replaced.
     path: PathBuf,
     file: File,
+    /// The bytes that were read of it, if it was read.
+    seen: Option<Vec<u8>>,
 }
 
 impl Image {
@@ -74,7 +77,7 @@ impl Image {
         let mut options = OpenOptions::new();
         options.read(true).write(lock == Lock::Exclusive).custom_flags(posix::OPEN_WITHOUT_WAITING);
         let file = options.open(&path).map_err(failed(named))?;
-        Ok(Image { named: named.to_path_buf(), path, file })
+        Ok(Image { named: named.to_path_buf(), path, file, seen: None })
     }
 
     fn suits(&self, lock: Lock) -> Result<(), Failure> {
@@ -92,13 +95,34 @@ impl Image {
     }
 
     /// The file's bytes; of one that is too large as many as show that.
-    pub fn read(&self) -> Result<Vec<u8>, Failure> {
-        input::bounded(&self.file).map_err(failed(&self.named))
+    pub fn read(&mut self) -> Result<Vec<u8>, Failure> {
+        let bytes = self.bytes().map_err(failed(&self.named))?;
+        self.seen = Some(bytes.clone());
+        Ok(bytes)
+    }
+
+    fn bytes(&self) -> io::Result<Vec<u8>> {
+        let mut file = &self.file;
+        file.seek(SeekFrom::Start(0))?;
+        input::bounded(file)
+    }
+
+    /// Whether the file has the bytes that were read of it. Of one that was not read nothing is asked.
+    pub fn is_as_read(&self) -> io::Result<bool> {
+        match &self.seen {
+            Some(seen) => Ok(*seen == self.bytes()?),
+            None => Ok(true),
+        }
     }
 
     /// Puts a new image in the old one's place, at once or not at all.
     pub fn save(self, bytes: &[u8]) -> Result<(), Failure> {
         replace::replace(&self, bytes).map_err(Failure::File)
+    }
+
+    /// The same, and the old bytes are kept beside it, in a file that was not there. Gives its path.
+    pub fn save_keeping(self, old: &[u8], bytes: &[u8]) -> Result<PathBuf, Failure> {
+        replace::replace_keeping(&self, old, bytes).map_err(Failure::File)
     }
 
     pub fn named(&self) -> &Path {

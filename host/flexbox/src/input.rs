@@ -1,9 +1,9 @@
-//! Reading what others give, never more than a diskette can hold.
+//! Reading what others give, never more than a diskette can hold; and asking.
 
 use crate::failure::Failure;
 use flex::LARGEST_IMAGE;
 use std::fs::File;
-use std::io::{self, Read};
+use std::io::{self, BufRead, Read, Write};
 use std::path::Path;
 
 /// At most one byte past the largest diskette: enough to know that there is more.
@@ -27,6 +27,20 @@ pub fn contents(reader: impl Read, what: &str) -> Result<Vec<u8>, Failure> {
 
 pub fn standard_input() -> Result<Vec<u8>, Failure> {
     contents(io::stdin().lock(), "standard input")
+}
+
+/// Whether there is somebody to ask.
+pub fn can_ask() -> bool {
+    posix::is_terminal(&io::stdin())
+}
+
+/// Whether the answer to a question begins with a 'y'; no answer is none.
+pub fn ask(question: &str) -> bool {
+    let mut answer = String::new();
+    // Where nobody can be asked, nobody answers.
+    let _ = write!(io::stderr(), "{}", question);
+    let _ = io::stdin().lock().read_line(&mut answer);
+    answer.trim_start().to_lowercase().starts_with('y')
 }
 
 pub fn file(path: &Path) -> Result<Vec<u8>, Failure> {

@@ -1,8 +1,8 @@
 //! flexbox: makes FLEX diskette images and lists, reads, checks and changes their files, by the proved service.
 //!
-//! All of it goes through the six entries of libflex.a, and whether a diskette is sound its census alone decides. `main`
-//! finds the command and gives its exit status: 0 done; 1 refused by the service, or damaged; 2 wrong usage; 3 a file of this
-//! machine can't be read or may not be written; 4 another program has the image locked.
+//! All of it goes through the seven entries of libflex.a, and whether a diskette is sound its census alone decides. `main`
+//! finds the command and gives its exit status: 0 done; 1 refused by the service, or damaged, by now repaired too; 2 wrong usage,
+//! or not repaired; 3 a file of this machine can't be read or may not be written; 4 another program has the image locked.
 
 #![forbid(unsafe_code)]
 
@@ -13,6 +13,7 @@ mod image;
 mod input;
 mod json;
 mod page;
+mod plan;
 mod replace;
 mod words;
 

@@ -57,6 +57,12 @@ impl Words {
         Words { command: self.command, operands: vec![image.to_os_string()], options: Vec::new(), wait: self.wait }
     }
 
+    /// The same words and this option.
+    pub fn with(&self, option: &'static str) -> Words {
+        let options = self.options.iter().cloned().chain([(option, None)]).collect();
+        Words { command: self.command, operands: self.operands.clone(), options, wait: self.wait }
+    }
+
     /// The words behind the command's name. None: help is asked for.
     pub fn parse(command: &'static Command, words: &[OsString]) -> Result<Option<Words>, Failure> {
         let mut parsed = Words { command, operands: Vec::new(), options: Vec::new(), wait: Duration::ZERO };

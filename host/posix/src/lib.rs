@@ -1,5 +1,5 @@
-//! Four functions of the C library that flexbox needs and that std of Rust 1.63, Debian 12's, does not have: an advisory lock on
-//! a file, its owner set, a rename that replaces nothing, and the local date. All unsafe code of the host that is not a call of
+//! Five functions of the C library that flexbox needs and that std of Rust 1.63, Debian 12's, does not have: an advisory lock on
+//! a file, its owner set, a rename that replaces nothing, whether a file is a terminal, and the local date. All unsafe code of the host that is not a call of
 //! libflex.a is here. docs/DECISIONS.md says why they are declared here and not taken from a crate.
 
 use std::ffi::CString;
@@ -34,6 +34,7 @@ extern "C" {
     fn flock(file: c_int, operation: c_int) -> c_int;
     fn fchown(file: c_int, owner: c_uint, group: c_uint) -> c_int;
     fn renameat2(from_folder: c_int, from: *const c_char, to_folder: c_int, to: *const c_char, flags: c_uint) -> c_int;
+    fn isatty(file: c_int) -> c_int;
     fn time(stored: *mut i64) -> i64;
     fn localtime_r(seconds: *const i64, into: *mut BrokenDownTime) -> *mut BrokenDownTime;
 }
@@ -83,6 +84,13 @@ pub fn rename_new(from: &Path, to: &Path) -> io::Result<()> {
     answered(unsafe {
         renameat2(WHERE_THE_PATH_SAYS, from.as_ptr(), WHERE_THE_PATH_SAYS, to.as_ptr(), REPLACES_NOTHING)
     })
+}
+
+/// Whether somebody sits at the other end of an open file.
+pub fn is_terminal(file: &impl AsRawFd) -> bool {
+    // # Safety
+    // isatty takes a number and touches no memory of this process. The descriptor is open as long as `file` lives.
+    unsafe { isatty(file.as_raw_fd()) == 1 }
 }
 
 /// Today's date where the machine stands, by the variable TZ or the machine's time zone: year, month, day.
@@ -152,6 +160,13 @@ mod tests {
         rename_new(&from, &to).unwrap();
         assert_eq!((fs::read(&to).unwrap(), from.exists()), (b"new".to_vec(), false));
         fs::remove_file(&to).unwrap();
+    }
+
+    #[test]
+    fn a_file_is_no_terminal() {
+        let path = env::temp_dir().join(format!("posix-terminal-{}", process::id()));
+        assert!(!is_terminal(&File::create(&path).unwrap()));
+        fs::remove_file(&path).unwrap();
     }
 
     #[test]

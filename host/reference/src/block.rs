@@ -11,7 +11,7 @@ fn is_idle(table: &[u8], f: usize) -> bool {
 }
 
 /// "Preset writes one byte: offset 0 always; 3-14, 25-27, 30-31, 53-63 if activity is 0 or 16. Otherwise 18, nothing
-/// changed."
+/// changed." 02, ticket 12: "preset taking 15-24 and 64-319 too if activity is 0 or 16".
 pub fn preset(table: &mut [u8], fcb: usize, offset: usize, value: u8) -> u32 {
     let f = match block_at(table, fcb) {
         Some(f) => f,
@@ -20,6 +20,7 @@ pub fn preset(table: &mut [u8], fcb: usize, offset: usize, value: u8) -> u32 {
     let allowed = match offset {
         0 => true,
         3..=14 | 25..=27 | 30..=31 | 53..=63 => is_idle(table, f),
+        15..=24 | 64..=319 => is_idle(table, f),
         _ => false,
     };
     if !allowed {

@@ -1,4 +1,4 @@
-//! The FMS call and its ten functions.
+//! The FMS call and its twelve functions.
 //!
 //! A function tests in the papers' order and stores only after its last test, so that an `Err` has changed nothing.
 
@@ -70,7 +70,7 @@ fn answered(image: &mut [u8], table: &mut [u8], f: usize, byte: u8) -> Outcome {
     let shape = Shape::of(image).ok_or(16)?;
     let function = table[f + FUNCTION];
     let activity = table[f + ACTIVITY];
-    if ![0, 1, 2, 4, 5, 6, 7, 9, 12, 13].contains(&function) {
+    if ![0, 1, 2, 4, 5, 6, 7, 8, 9, 10, 12, 13].contains(&function) {
         return Err(1);
     }
     if table[f + DRIVE] != 0 {
@@ -88,7 +88,9 @@ fn answered(image: &mut [u8], table: &mut [u8], f: usize, byte: u8) -> Outcome {
         (5, READ) => call.rewind(),
         (6, CLOSED | DIRECTORY) => call.open_directory(),
         (7, DIRECTORY) => call.next_slot(),
+        (8, DIRECTORY) => call.put_slot(),
         (9, CLOSED | DIRECTORY) => call.read_sector(),
+        (10, CLOSED | DIRECTORY) => call.write_sector(),
         (12, CLOSED | DIRECTORY) => call.delete(),
         (13, CLOSED | DIRECTORY) => call.rename(),
         _ => Err(18),
@@ -418,6 +420,28 @@ impl Call<'_> {
             return Err(9);
         }
         self.sector_to_buffer(self.shape.offset(wanted));
+        Ok(0)
+    }
+
+    /// 02, ticket 12: "functions 8 (activity 16; 5)". The manual: "The directory information is copied from the Directory
+    /// Information portion of the FCB into the directory entry to which the FCB currently points." 0,0,0 points to none.
+    fn put_slot(&mut self) -> Outcome {
+        let slot = self.own_slot()?;
+        let at = self.f + NAME;
+        self.image[slot..slot + SLOT].copy_from_slice(&self.table[at..at + SLOT]);
+        Ok(0)
+    }
+
+    /// 02, ticket 12: "and 10 (activity 0 or 16; 10 if no such sector)". The manual: "The disk address being written is taken from
+    /// the Current Position bytes of the FCB; the data is taken from the FCB Sector Buffer."
+    fn write_sector(&mut self) -> Outcome {
+        let wanted = self.block_address(POSITION);
+        if !self.shape.exists(wanted) {
+            return Err(10);
+        }
+        let sector = self.shape.offset(wanted);
+        let at = self.f + BUFFER;
+        self.image[sector..sector + SECTOR].copy_from_slice(&self.table[at..at + SECTOR]);
         Ok(0)
     }
 

@@ -57,7 +57,7 @@ fn holdings(image: &[u8], shape: Shape) -> Result<Vec<(u16, u16)>, u32> {
 }
 
 /// "43 .. two live slots with equal eleven bytes"; 02, ticket 1: "43 loses its first half"
-fn has_equal_names(image: &[u8], slots: &[usize]) -> bool {
+pub fn has_equal_names(image: &[u8], slots: &[usize]) -> bool {
     let mut names: Vec<&[u8]> =
         slots.iter().filter(|&&slot| directory::is_live(image, slot)).map(|&slot| &image[slot..slot + 11]).collect();
     names.sort_unstable();

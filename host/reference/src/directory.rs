@@ -7,11 +7,12 @@ pub const SLOT: usize = 24;
 /// "Slots: ten per sector, at 16, 40, .. 232"
 const SLOTS: usize = 10;
 const FIRST_SLOT: usize = 16;
-/// Where a slot has its attributes, start, end and size: it is equal to bytes 4-27 of a control block.
+/// Where a slot has its attributes, start, end, size and byte 23: it is equal to bytes 4-27 of a control block.
 pub const ATTRIBUTES: usize = 15 - 4;
 pub const START: usize = 17 - 4;
 pub const END: usize = 19 - 4;
 pub const SIZE: usize = 21 - 4;
+pub const MAP: usize = 23 - 4;
 pub const DATE: usize = 25 - 4;
 
 /// "begins with a letter and goes on with letters, digits, hyphens or underscores, then zeros to its end"

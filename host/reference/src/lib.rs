@@ -1,4 +1,4 @@
-//! The six entries of the diskette service, written plainly from documents 01 and 02 and from nothing else.
+//! The seven entries of the diskette service, written plainly from documents 01 and 02 and from nothing else.
 //!
 //! Nothing here is proved, and no host program uses it: it is what the proved archive is compared with,
 //! call by call and byte by byte, and the straightforward program that its speed is measured against.
@@ -11,6 +11,7 @@ mod call;
 mod census;
 mod directory;
 mod format;
+mod repair;
 mod shape;
 mod text;
 
@@ -18,6 +19,7 @@ pub use block::{extension, preset};
 pub use call::call;
 pub use census::census;
 pub use format::format;
+pub use repair::{repair, repair_stores};
 pub use text::error_text;
 
 /// The table of control blocks: eight of 320 bytes.

@@ -62,6 +62,11 @@ impl Shape {
         ((sectors / self.per) as u8, (sectors % self.per) as u8 + 1)
     }
 
+    /// The address of the data sector with this number.
+    pub fn data_address(&self, number: usize) -> Address {
+        self.address(self.per + number)
+    }
+
     /// How many data sectors there are.
     pub fn data_sectors(&self) -> usize {
         self.last * self.per

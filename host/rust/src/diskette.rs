@@ -157,6 +157,28 @@ impl Diskette {
         Ok(&self.block(JOB)[BUFFER..])
     }
 
+    /// Stores 256 bytes into a sector, a file's or not: a raw write, which can break the diskette. [`Diskette::survey`] tells.
+    pub fn write_sector(&mut self, address: Address, bytes: &[u8; SECTOR]) -> Result<(), Refusal> {
+        self.preset_all(JOB, POSITION, &[address.track, address.sector])?;
+        self.preset_all(JOB, BUFFER, bytes)?;
+        self.ask(JOB, WRITE_SECTOR)?;
+        Ok(())
+    }
+
+    /// Stores the 24 bytes of a slot, the `number`-th from 1 on: a raw write, too. 8 where there is no such slot.
+    pub fn put_slot(&mut self, number: usize, slot: &[u8; SLOT]) -> Result<(), Refusal> {
+        self.ask(JOB, OPEN_DIRECTORY)?;
+        let shown = (0..number).try_for_each(|_| self.ask(JOB, NEXT_SLOT).map(|_| ()));
+        let put = shown.and_then(|()| self.preset_all(JOB, NAME, slot)).and_then(|()| self.ask(JOB, PUT_SLOT));
+        self.ask(JOB, CLOSE)?;
+        put.map(|_| ())
+    }
+
+    /// Repairs the diskette, as [`crate::repair`] says. All blocks must be closed.
+    pub fn repair(&mut self) -> Result<(), Refusal> {
+        crate::repair(&mut self.image, &self.table)
+    }
+
     /// The census: which chain holds each data sector.
     pub fn survey(&self) -> Result<Vec<Held>, Refusal> {
         survey(&self.image)

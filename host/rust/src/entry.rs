@@ -1,4 +1,4 @@
-//! The six entries on numbers and slices, with the archive's own answers. The only unsafe code of this crate is here.
+//! The seven entries on numbers and slices, with the archive's own answers. The only unsafe code of this crate is here.
 //!
 //! Each call is safe for every input: the archive is proved to stay inside the slices that it is lent and to end, whatever
 //! they hold and however long they are, and two `&mut` slices can't overlap, which is all that a host owes it.
@@ -28,6 +28,7 @@ extern "C" {
         day: u8,
         year: u8,
     ) -> u32;
+    fn flex_repair(image: *mut u8, image_len: usize, table: *const u8, table_len: usize) -> u32;
 }
 
 /// The answer: 0, 13 or 18.
@@ -96,4 +97,12 @@ pub fn format(
             year,
         )
     }
+}
+
+/// The answer: 0, 2, 13, 41, 42 or 43.
+pub fn repair(image: &mut [u8], table: &[u8]) -> u32 {
+    // # Safety
+    // Each pointer and the length beside it are of one slice. The image is borrowed mutably for the call alone, so it does not
+    // overlap the table, which the archive only reads (its pointer is const). Every length and content is allowed.
+    unsafe { flex_repair(image.as_mut_ptr(), image.len(), table.as_ptr(), table.len()) }
 }

@@ -49,7 +49,7 @@ pub const NEW_NAME: usize = 53;
 /// 64-319: the sector at the position.
 pub const BUFFER: usize = 64;
 
-// Attributes of a file. No function sets them: a new file has none.
+// Attributes of a file. A new file has none; the raw writes alone, put slot and write sector, can set them.
 
 /// It is neither deleted nor renamed.
 pub const ATTRIBUTE_WRITE: u8 = 128;
@@ -75,8 +75,12 @@ pub const REWIND: u8 = 5;
 pub const OPEN_DIRECTORY: u8 = 6;
 /// Open directory: the next slot to 4-27, whatever it holds.
 pub const NEXT_SLOT: u8 = 7;
+/// Open directory: 4-27 to the slot that was shown last. A raw write: it asks nothing of what it stores.
+pub const PUT_SLOT: u8 = 8;
 /// Idle; the sector at 30-31 to the buffer.
 pub const READ_SECTOR: u8 = 9;
+/// Idle; the buffer to the sector at 30-31, any that exists. A raw write, like put slot.
+pub const WRITE_SECTOR: u8 = 10;
 /// Idle; the file by this name. 4-27 are then the marked slot: byte 4 is 255.
 pub const DELETE: u8 = 12;
 /// Idle; the file by this name gets the new name.
@@ -93,6 +97,8 @@ pub const OWNER_DIRECTORY: u16 = 65_534;
 pub const LARGEST_IMAGE: usize = 737_280;
 /// The bytes of a sector.
 pub const SECTOR: usize = 256;
+/// The bytes of a slot of the directory, which stands in a control block from the name on.
+pub const SLOT: usize = 24;
 /// The bytes of a sector that are a file's own; the first four are its link and its record number.
 pub const DATA: usize = 252;
 

@@ -18,8 +18,8 @@
 //!
 //! The small steps that these jobs are made of, on any block, are those of [`Steps`].
 //!
-//! [`preset`], [`extension`], [`call`], [`census`], [`error_text`] and [`format`] are the six entries on buffers of the host's
-//! own, and [`entry`] has them with the archive's bare answers.
+//! [`preset`], [`extension`], [`call`], [`census`], [`error_text`], [`format`] and [`repair`] are the seven entries on buffers of
+//! the host's own, and [`entry`] has them with the archive's bare answers.
 
 #![deny(unsafe_code)]
 #![warn(missing_docs)]
@@ -46,7 +46,7 @@ pub use survey::{survey, Held};
 /// The version of this crate, which is that of flex.h.
 pub const VERSION: &str = env!("CARGO_PKG_VERSION");
 
-/// Writes one byte of block `fcb`: offset 0 always, 3-14, 25-27, 30-31 and 53-63 while no file is open in it.
+/// Writes one byte of block `fcb`: offset 0 always, 3-27, 30-31 and 53-319 while no file is open in it.
 pub fn preset(table: &mut [u8], fcb: usize, offset: usize, value: u8) -> Result<(), Refusal> {
     settled(entry::preset(table, fcb, offset, value))
 }
@@ -87,6 +87,15 @@ pub fn format(
     date: [u8; 3],
 ) -> Result<(), Refusal> {
     settled(entry::format(image, last_track, per_track, label, volume, date))
+}
+
+/// Repairs a damaged diskette whose shape, directory and names are right. Each live file, in the order of the slots, keeps the
+/// longest start of its chain that goes over data sectors which neither the directory nor an earlier file holds, and is no longer
+/// than the file states; all other data sectors are then free, in rising order. A file that is rightly chained and shares nothing
+/// keeps every byte, and the census accepts what comes out. All blocks of the table must be closed. [`Diskette::repair`] does
+/// the same with its own two buffers.
+pub fn repair(image: &mut [u8], table: &[u8]) -> Result<(), Refusal> {
+    settled(entry::repair(image, table))
 }
 
 /// The service's text for a number.

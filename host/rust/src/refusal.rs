@@ -10,7 +10,7 @@ use std::fmt;
 pub enum Refusal {
     /// 1: the function code is not served.
     NotServed,
-    /// 2: the file is in use by a control block.
+    /// 2: the file is in use by a control block; a repair: a control block is open.
     InUse,
     /// 3: the name exists already.
     Exists,
@@ -24,7 +24,8 @@ pub enum Refusal {
     End,
     /// 9: a bad address in reading or deleting.
     BadRead,
-    /// 10: a bad address in writing, or in an open for write where the directory is to grow; or it is at its longest.
+    /// 10: a bad address in writing, or in an open for write where the directory is to grow; or it is at its longest. A sector
+    /// to write does not exist.
     BadWrite,
     /// 11: the file is write-protected.
     WriteProtected,
@@ -42,11 +43,11 @@ pub enum Refusal {
     BadName,
     /// 40: an output, a text, or an image or a label for a blank diskette has the wrong length.
     OutputLength,
-    /// 41: the census found a wrong shape, or a blank diskette of no right shape was asked for.
+    /// 41: the census or a repair found a wrong shape, or a blank diskette of no right shape was asked for.
     CensusShape,
-    /// 42: the census found a directory that is not right.
+    /// 42: the census or a repair found a directory that is not right.
     CensusDirectory,
-    /// 43: the census found two files of one name.
+    /// 43: the census or a repair found two files of one name.
     CensusNames,
     /// 44: the census found a free chain that is not right.
     CensusFree,
@@ -61,7 +62,7 @@ use Refusal::*;
 /// Each number of documents 01 and 02 with its name here and its meaning in a few words.
 const ALL: [(u8, Refusal, &str); 23] = [
     (1, NotServed, "function not served"),
-    (2, InUse, "file in use"),
+    (2, InUse, "file in use, or a control block is open"),
     (3, Exists, "name exists already"),
     (4, NotFound, "name not found"),
     (5, Directory, "directory not right, or not a slot of it"),

@@ -1,5 +1,5 @@
-//! The wrapper on the archive: document 01's fixtures P1 to P12 on the five-sector diskette, blank diskettes, and the wrapper's own
-//! parts.
+//! The wrapper on the archive: document 01's fixtures P1 to P12 on the five-sector diskette, blank diskettes, raw writes and repair,
+//! and the wrapper's own parts.
 
 use super::*;
 
@@ -353,6 +353,89 @@ fn format_leaves_nothing_of_what_the_image_held() {
 }
 
 #[test]
+fn a_sector_that_is_written_raw_is_read_back() {
+    let mut two = two_files();
+    let bytes: [u8; SECTOR] = std::array::from_fn(|i| i as u8);
+    for address in [Address::new(0, 1), Address::new(0, 5), Address::new(1, 5)] {
+        two.write_sector(address, &bytes).unwrap();
+        assert_eq!(two.sector(address).unwrap(), bytes);
+    }
+    for none in [Address::NONE, Address::new(0, 6), Address::new(2, 1)] {
+        let before = two.image().to_vec();
+        assert_eq!(two.write_sector(none, &bytes), Err(Refusal::BadWrite));
+        assert_eq!(two.image(), before);
+    }
+    assert_eq!(two.survey(), Err(Refusal::CensusDirectory));
+}
+
+#[test]
+fn a_slot_that_is_put_raw_is_shown() {
+    let mut two = two_files();
+    let mut slot = [0; SLOT];
+    slot.copy_from_slice(&two.image()[1024 + 40..][..SLOT]);
+    slot[ATTRIBUTES - NAME] = ATTRIBUTE_READ;
+    two.put_slot(2, &slot).unwrap();
+    let shown = two.slots().unwrap();
+    assert!(shown[1].entry().unwrap().read_protected && !shown[0].entry().unwrap().read_protected);
+    assert_eq!(two.get(&name("B.TXT")), Err(Refusal::ReadProtected));
+    let before = two.image().to_vec();
+    assert_eq!(two.put_slot(0, &slot), Err(Refusal::Directory));
+    assert_eq!(two.put_slot(11, &slot), Err(Refusal::End));
+    assert_eq!(two.image(), before);
+    assert!(two.survey().is_ok());
+}
+
+#[test]
+fn a_shared_sector_stays_with_the_earlier_file() {
+    let offset = |sector| Shape { last: 1, per: 5 }.offset(Address::new(1, sector));
+    let shared = patched(&two_files(), offset(1), &[1, 5]);
+    let mut shared = patched(&shared, 1024 + 16 + 15, &[1, 5]);
+    assert_eq!(shared.survey(), Err(Refusal::CensusSectors));
+    shared.repair().unwrap();
+    assert_eq!(held(&shared), [(1, 0), (0, 1), (4, 1), (2, 2), (3, 2)]);
+    let (a, b) = (shared.get(&name("A.TXT")).unwrap(), shared.get(&name("B.TXT")).unwrap());
+    assert_eq!((a.sectors(), a.is_as_stated(), b.sectors(), b.is_as_stated()), (2, true, 2, true));
+    assert_eq!(b.bytes[..], bytes(756)[..504]);
+    let once = shared.clone();
+    shared.repair().unwrap();
+    assert_eq!(shared, once);
+}
+
+#[test]
+fn a_sound_diskette_keeps_its_files_and_its_free_chain_rises() {
+    let mut five = five();
+    put(&mut five, "A.TXT", 252);
+    put(&mut five, "B.TXT", 252);
+    five.delete(&name("A.TXT")).unwrap();
+    assert_eq!(held(&five), [(2, 0), (3, 0), (4, 0), (0, 0), (1, 2)]);
+    five.repair().unwrap();
+    assert_eq!(held(&five), [(0, 0), (2, 0), (3, 0), (4, 0), (1, 2)]);
+    assert_eq!(five.get(&name("B.TXT")).unwrap().bytes, bytes(252));
+}
+
+/// In the order of their tests: each of these has all faults that are tested later, too.
+#[test]
+fn a_refused_repair_changes_nothing() {
+    let twins = patched(&two_files(), 1024 + 40, b"A");
+    let loose = patched(&twins, 1024, &[0, 4]);
+    let mut open = loose.clone();
+    open.ask(0, OPEN_DIRECTORY).unwrap();
+    let (image, table) = open.clone().into_buffers();
+    let cut = &mut image.clone()[..2559];
+    assert_eq!(repair(cut, &table[1..]), Err(Refusal::NoBlock));
+    assert_eq!(repair(cut, &table), Err(Refusal::InUse));
+    assert_eq!(repair(cut, &[0; TABLE]), Err(Refusal::CensusShape));
+    assert_eq!(*cut, image[..2559]);
+    for (diskette, refusal) in
+        [(open, Refusal::InUse), (loose, Refusal::CensusDirectory), (twins, Refusal::CensusNames)]
+    {
+        let mut after = diskette.clone();
+        assert_eq!(after.repair(), Err(refusal));
+        assert_eq!(after, diskette);
+    }
+}
+
+#[test]
 fn sectors_are_read_whole() {
     let mut two = two_files();
     assert_eq!(two.sector(Address::new(1, 1)).unwrap()[..6], [1, 2, 0, 1, 0, 1]);
@@ -377,7 +460,22 @@ fn refusals_by_preset() {
     assert_eq!(preset(&mut table, 0, usize::MAX, 9), Err(Refusal::Unfit));
     assert_eq!(preset(&mut table, usize::MAX, 0, 9), Err(Refusal::NoBlock));
     assert_eq!(preset(&mut table[1..], 0, 0, 9), Err(Refusal::NoBlock));
+    for offset in [2, 28, 29, 32, 52, BLOCK] {
+        assert_eq!(preset(&mut table, 0, offset, 9), Err(Refusal::Unfit), "{}", offset);
+    }
     assert!(table.iter().all(|&byte| byte == 0));
+}
+
+#[test]
+fn slot_and_buffer_are_preset_while_no_file_is_open() {
+    for (activity, expected) in [(0, Ok(())), (16, Ok(())), (1, Err(Refusal::Unfit)), (2, Err(Refusal::Unfit))] {
+        let mut table = vec![0; TABLE];
+        table[ACTIVITY] = activity;
+        for offset in (ATTRIBUTES..DATE).chain(BUFFER..BLOCK) {
+            assert_eq!(preset(&mut table, 0, offset, 9), expected, "{} {}", activity, offset);
+            assert_eq!(table[offset], if activity % 16 == 0 { 9 } else { 0 });
+        }
+    }
 }
 
 #[test]

@@ -1,8 +1,8 @@
 //! One job, done once, inside a function by whose name a tool knows when to count: all that makes its diskette is outside.
 
 use crate::jobs::{
-    data_sectors, half_full, outputs, to_fill, to_format, to_load, to_open, to_read, with_files, Buffers, Service,
-    OPENED, PLAIN, PROVED,
+    data_sectors, half_full, outputs, to_fill, to_format, to_load, to_open, to_read, to_repair, to_write, with_files,
+    Buffers, Service, OPENED, PLAIN, PROVED,
 };
 
 /// A job with its buffers made ready.
@@ -13,8 +13,11 @@ enum Job {
     Read(Buffers),
     Load(Buffers, Vec<[u8; 2]>),
     Store(Buffers, Vec<[u8; 2]>),
+    Write(Buffers, Vec<[u8; 2]>),
     /// Of an image with this last track and these sectors per track.
     Format(Vec<u8>, usize, usize),
+    /// Of an image with so many sectors that are in use.
+    Repair(Vec<u8>, usize),
 }
 
 /// Does the job that the words of the command ask for; the last of them may be a number of files. None: they are no words for a
@@ -39,7 +42,7 @@ pub fn one(service: &str, job: &str, last: &str, per: &str, files: &[&str]) -> O
     let done = counted_job(service, &mut job);
     assert_eq!(
         done, whole,
-        "not all bytes were taken, given, loaded, stored, surveyed or freed, or not all files opened"
+        "not all bytes were taken, given, loaded, stored, surveyed, freed or kept, or not all files opened"
     );
     Some(())
 }
@@ -49,6 +52,7 @@ fn ready_with(job: &str, last: usize, per: usize, files: usize) -> Option<Job> {
     match job {
         "census" => Some(Job::Census(with_files(last, per, files), outputs(last * per))),
         "open" => Some(to_open(last, per, files)).map(|(image, tables)| Job::Open(image, tables)),
+        "repair" => Some(repair(with_files(last, per, files), last * per)),
         _ => None,
     }
 }
@@ -60,9 +64,16 @@ fn ready(job: &str, last: usize, per: usize) -> Option<Job> {
         "read" => Some(Job::Read(to_read(filled(last, per)))),
         "load" => Some(Job::Load(to_load(filled(last, per)), data_sectors(last, per))),
         "store" => Some(Job::Store(to_fill(last, per), data_sectors(last, per))),
+        "write" => Some(Job::Write(to_write(last, per), data_sectors(last, per))),
         "format" => Some(Job::Format(to_format(last, per), last, per)),
+        "repair" => Some(repair(half_full(last, per), last * per)),
         _ => None,
     }
+}
+
+fn repair(image: Vec<u8>, data_sectors: usize) -> Job {
+    let (image, free) = to_repair(image);
+    Job::Repair(image, data_sectors - free)
 }
 
 fn filled(last: usize, per: usize) -> Buffers {
@@ -84,6 +95,8 @@ fn counted_job(service: Service, job: &mut Job) -> usize {
         Job::Read(buffers) => service.read(buffers),
         Job::Load(buffers, sectors) => service.load(buffers, sectors) * flex::DATA,
         Job::Store(buffers, sectors) => service.store(buffers, sectors) * flex::DATA,
+        Job::Write(buffers, sectors) => service.write(buffers, sectors) * flex::DATA,
         Job::Format(image, last, per) => service.format(image, *last, *per) * flex::DATA,
+        Job::Repair(image, used) => (service.repair(image) + *used) * flex::DATA,
     }
 }

@@ -6,12 +6,14 @@ use flex::{Diskette, Name, Refusal, Steps};
 type Call = fn(&mut [u8], &mut [u8], usize, u8) -> u32;
 type Census = fn(&[u8], &mut [u8], &mut [u8]) -> u32;
 type Format = fn(&mut [u8], usize, usize, &[u8], u16, [u8; 3]) -> u32;
+type Repair = fn(&mut [u8], &[u8]) -> u32;
 
 #[derive(Clone, Copy)]
 pub struct Service {
     call: Call,
     census: Census,
     format: Format,
+    repair: Repair,
 }
 
 #[inline(never)]
@@ -30,6 +32,11 @@ fn plain_format(image: &mut [u8], last: usize, per: usize, label: &[u8], volume:
 }
 
 #[inline(never)]
+fn plain_repair(image: &mut [u8], table: &[u8]) -> u32 {
+    reference::repair(image, table)
+}
+
+#[inline(never)]
 fn proved_call(image: &mut [u8], table: &mut [u8], fcb: usize, byte: u8) -> u32 {
     flex::entry::call(image, table, fcb, byte)
 }
@@ -44,8 +51,15 @@ fn proved_format(image: &mut [u8], last: usize, per: usize, label: &[u8], volume
     flex::entry::format(image, last, per, label, volume, date)
 }
 
-pub const PLAIN: Service = Service { call: plain_call, census: plain_census, format: plain_format };
-pub const PROVED: Service = Service { call: proved_call, census: proved_census, format: proved_format };
+#[inline(never)]
+fn proved_repair(image: &mut [u8], table: &[u8]) -> u32 {
+    flex::entry::repair(image, table)
+}
+
+pub const PLAIN: Service =
+    Service { call: plain_call, census: plain_census, format: plain_format, repair: plain_repair };
+pub const PROVED: Service =
+    Service { call: proved_call, census: proved_census, format: proved_format, repair: proved_repair };
 
 /// An image and a table.
 pub type Buffers = (Vec<u8>, Vec<u8>);
@@ -89,6 +103,17 @@ impl Service {
         sectors.iter().enumerate().map(is_stored).take_while(|&done| done).count()
     }
 
+    /// Writes the buffer into the data sectors in order, by write sector; how many have its last byte at their end.
+    pub fn write(&self, (image, table): &mut Buffers, sectors: &[[u8; 2]]) -> usize {
+        let first = image.len() - sectors.len() * flex::SECTOR;
+        let is_written = |(n, address): (usize, &[u8; 2])| {
+            table[flex::POSITION..flex::POSITION + 2].copy_from_slice(address);
+            table[flex::BUFFER + 255] = !n as u8;
+            (self.call)(image, table, 0, 0) == 0 && image[first + n * flex::SECTOR + 255] == !n as u8
+        };
+        sectors.iter().enumerate().map(is_written).take_while(|&done| done).count()
+    }
+
     /// Opens a file for read in each table; how many were.
     pub fn open_all(&self, image: &mut [u8], tables: &mut [Vec<u8>]) -> usize {
         tables.iter_mut().map(|table| (self.call)(image, table, 0, 0)).filter(|&answer| answer == 0).count()
@@ -102,12 +127,23 @@ impl Service {
     /// Fills an image of the right length with a blank diskette; how many data sectors it then has, by the count of free ones.
     pub fn format(&self, image: &mut [u8], last: usize, per: usize) -> usize {
         assert_eq!((self.format)(image, last, per, b"MEASUREMENT", 1, DATE), 0, "format refused");
-        u16::from_be_bytes([image[FREE_COUNT], image[FREE_COUNT + 1]]) as usize
+        free_sectors(image)
+    }
+
+    /// Repairs a diskette; how many sectors are free then.
+    pub fn repair(&self, image: &mut [u8]) -> usize {
+        assert_eq!((self.repair)(image, &[0; flex::TABLE]), 0, "repair refused");
+        free_sectors(image)
     }
 }
 
-/// Where the information record states how many sectors are free.
-const FREE_COUNT: usize = 2 * flex::SECTOR + 33;
+/// Where the information record states first free, last free, and how many sectors are free.
+const FREE: usize = 2 * flex::SECTOR + 29;
+const FREE_COUNT: usize = FREE + 4;
+
+fn free_sectors(image: &[u8]) -> usize {
+    u16::from_be_bytes([image[FREE_COUNT], image[FREE_COUNT + 1]]) as usize
+}
 
 const DATE: [u8; 3] = [12, 3, 81];
 
@@ -148,6 +184,11 @@ pub fn to_load(used: Buffers) -> Buffers {
         diskette.ask(0, flex::CLOSE)?;
         diskette.choose(0, flex::READ_SECTOR).map(|()| 0)
     })
+}
+
+/// A blank diskette with all blocks closed, and write sector chosen.
+pub fn to_write(last: usize, per: usize) -> Buffers {
+    worked(blank(last, per), |diskette| diskette.choose(0, flex::WRITE_SECTOR).map(|()| 0))
 }
 
 /// The addresses of the data sectors, in order.
@@ -211,6 +252,17 @@ pub fn to_open(last: usize, per: usize, files: usize) -> (Vec<u8>, Vec<Vec<u8>>)
 /// An image to format, all of it zero.
 pub fn to_format(last: usize, per: usize) -> Vec<u8> {
     vec![0; (last + 1) * per * flex::SECTOR]
+}
+
+/// The same diskette with a free chain that begins in a file and one sector too many in the first file, and how many sectors will be
+/// free again: all that were.
+pub fn to_repair(mut image: Vec<u8>) -> (Vec<u8>, usize) {
+    const FIRST_SLOT: usize = 4 * flex::SECTOR + 16;
+    let free = free_sectors(&image);
+    let start = FIRST_SLOT + flex::START - flex::NAME;
+    image.copy_within(start..start + 2, FREE);
+    image[FIRST_SLOT + flex::SIZE - flex::NAME + 1] += 1;
+    (image, free)
 }
 
 /// The two outputs of a census.

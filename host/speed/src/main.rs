@@ -13,8 +13,8 @@ use std::env;
 use std::process::ExitCode;
 
 const USAGE: &str = "usage: speed [ROUNDS]
-       speed count proved|plain census|fill|read|load|store|format M S
-       speed count proved|plain census|open M S FILES";
+       speed count proved|plain census|fill|read|load|store|write|format|repair M S
+       speed count proved|plain census|open|repair M S FILES";
 
 fn main() -> ExitCode {
     let words: Vec<String> = env::args().skip(1).collect();

@@ -1,12 +1,12 @@
 //! The times of both services. A diskette of 35 tracks of 10 sectors, of which 34 tracks hold data, is filled by single calls
 //! and read back, and its sectors are loaded and stored one by one; a census is taken of it, of the smallest diskette and of the
-//! largest, and the largest is formatted. On the largest there are then up to 2,000 files, for which its directory has grown: some
-//! are opened by name, and a census is taken. The two services take turns, every round starts from buffers that are cleared and
+//! largest, and the largest is formatted, and repaired. On the largest there are then up to 2,000 files, for which its directory has grown: some
+//! are opened by name, a census is taken, and it is repaired. The two services take turns, every round starts from buffers that are cleared and
 //! made anew, and of all rounds the quickest counts, since what else the machine does can only slow one down.
 
 use crate::jobs::{
-    data_sectors, files, half_full, outputs, to_fill, to_format, to_load, to_open, to_read, with_files, Buffers,
-    Service, OPENED, PLAIN, PROVED,
+    data_sectors, files, half_full, outputs, to_fill, to_format, to_load, to_open, to_read, to_repair, with_files,
+    Buffers, Service, OPENED, PLAIN, PROVED,
 };
 use std::time::{Duration, Instant};
 
@@ -19,8 +19,10 @@ pub fn all(rounds: usize) {
         censuses(rounds, &what, &half_full(last, per), last * per);
     }
     formats(rounds, 79, 36);
+    repairs(rounds, "repair of 79×36, 8 files, half full", half_full(79, 36), 79 * 36);
     let few = crowded_census(rounds, 79, 36, 200);
     let many = crowded_census(rounds, 79, 36, 2000);
+    repairs(rounds, "repair of 79×36, 2000 files", with_files(79, 36, 2000), 79 * 36);
     println!("time for an open by name");
     for files in [10, 100, 2000] {
         opens(rounds, 79, 36, files);
@@ -142,6 +144,23 @@ fn formats(rounds: usize, last: usize, per: usize) {
         assert!(images[0] == images[1], "the two blank diskettes differ");
     }
     print_row(&format!("format {}×{}", last, per), images[0].len() / flex::SECTOR, best[0], best[1]);
+}
+
+/// Each service has an image of its own, damaged anew before each round.
+fn repairs(rounds: usize, what: &str, image: Vec<u8>, data_sectors: usize) {
+    let (damaged, expected) = to_repair(image);
+    let mut images = [damaged.clone(), damaged.clone()];
+    let mut best = [Duration::MAX; 2];
+    for _ in 0..rounds {
+        for (i, service) in [PROVED, PLAIN].iter().enumerate() {
+            images[i].copy_from_slice(&damaged);
+            let (time, free) = timed(|| service.repair(&mut images[i]));
+            assert_eq!(free, expected, "not all sectors are free again");
+            best[i] = best[i].min(time);
+        }
+        assert!(images[0] == images[1], "the two repaired diskettes differ");
+    }
+    print_row(what, data_sectors, best[0], best[1]);
 }
 
 fn print_row(what: &str, sectors: usize, proved: Duration, plain: Duration) {

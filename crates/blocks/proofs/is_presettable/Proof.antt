@@ -7,4 +7,4 @@ is-presettable-spec =
     tie.close
     (tie.spec
     (λ c. search offsets) (λ c. search offsets) (λ c. search offsets) (λ c. search offsets) (λ c. search offsets)
-    (λ c. search offsets) (λ c. search offsets) (λ c. search offsets) (λ c. search offsets))
+    (λ c. search offsets) (λ c. search offsets))

@@ -6,7 +6,7 @@ mod chain;
 mod directory;
 mod sectors;
 
-pub use sectors::Owner;
+pub use sectors::{file, holder, Owner};
 
 use chain::Chain;
 use flex::{Address, Diskette, Refusal, Shape, Slot};

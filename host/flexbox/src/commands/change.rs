@@ -15,7 +15,7 @@ const TOLD: usize = 8;
 
 /// A change of the image that is saved only if no part of it was refused and the census accepts what comes out.
 pub fn change(words: &Words, work: impl FnOnce(&mut Diskette) -> Result<(), Failure>) -> Result<(), Failure> {
-    let image = Image::take(words.image(), words.wait())?;
+    let mut image = Image::take(words.image(), words.wait())?;
     let mut diskette = Diskette::new(image.read()?);
     let was_sound = accept(words, &mut diskette)?;
     work(&mut diskette)?;
@@ -47,6 +47,7 @@ fn accept(words: &Words, diskette: &mut Diskette) -> Result<bool, Failure> {
         return Ok(false);
     }
     note(&format!("{}: not changed, since that could destroy sound files; --force would change it", name));
+    note(&format!("flexbox repair --dry-run {} says what a repair would do", name));
     Err(Failure::Shown)
 }
 

@@ -42,7 +42,7 @@ fn as_text(words: &Words, check: &Check) -> String {
     text
 }
 
-fn last_line(words: &Words, check: &Check) -> String {
+pub fn last_line(words: &Words, check: &Check) -> String {
     let name = words.image().display();
     let free = check.free_sectors();
     let all = check.shape.data_sectors();

@@ -1,9 +1,9 @@
 //! `demo`: the main job, told step by step. A new diskette is formatted and filled; then a file comes and goes on one that is in
-//! use. Each step goes through the image file, as a command does.
+//! use; then a damaged copy of that is repaired. Each step goes through the image file, as a command does.
 
 use super::change::change;
 use super::format::{is_there, make, Wanted};
-use super::{census, date, list, look, print, refused, typed};
+use super::{accident, census, date, list, look, print, refused, typed};
 use crate::failure::Failure;
 use crate::replace;
 use crate::words::Words;
@@ -28,13 +28,16 @@ const LINES: &str = "\
 ";
 
 pub fn run(words: &Words) -> Result<(), Failure> {
-    fill_a_new_one(&words.on(&words.others()[0]))?;
-    work_on_one_in_use(words)
+    let (new, damaged) = (words.on(&words.others()[0]), words.on(&words.others()[1]));
+    refuse_what_is_there(new.image(), "NEW")?;
+    refuse_what_is_there(damaged.image(), "DAMAGED")?;
+    fill_a_new_one(&new)?;
+    work_on_one_in_use(words)?;
+    accident::repaired(words, &damaged)
 }
 
 fn fill_a_new_one(words: &Words) -> Result<(), Failure> {
     let (image, date) = (words.image(), date::today()?);
-    refuse_what_is_there(image)?;
     say(&format!("Format {}, a new diskette:", image.display()))?;
     let wanted = Wanted { tracks: 3, sectors: 6, label: *b"NEW\0\0\0\0\0\0\0\0", volume: 1, date };
     make(image, &wanted, |bytes| replace::make(image, bytes).map_err(Failure::File))?;
@@ -52,11 +55,12 @@ fn fill_a_new_one(words: &Words) -> Result<(), Failure> {
 }
 
 /// Looked at before the first step is told. Unlike `format` this command replaces nothing.
-fn refuse_what_is_there(image: &Path) -> Result<(), Failure> {
+fn refuse_what_is_there(image: &Path, operand: &str) -> Result<(), Failure> {
     match is_there(image)? {
         true => Err(Failure::File(format!(
-            "{}: it is there already; demo needs a NEW that is not there yet",
-            image.display()
+            "{}: it is there already; demo needs a {} that is not there yet",
+            image.display(),
+            operand
         ))),
         false => Ok(()),
     }
@@ -104,7 +108,7 @@ fn work_on_one_in_use(words: &Words) -> Result<(), Failure> {
     census::run(words)
 }
 
-fn say(line: &str) -> Result<(), Failure> {
+pub fn say(line: &str) -> Result<(), Failure> {
     print(format!("\n{}\n", line).as_bytes())
 }
 

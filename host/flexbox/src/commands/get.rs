@@ -16,7 +16,7 @@ use std::path::{Path, PathBuf};
 /// All files are read before the first is given, so that a refusal gives nothing.
 pub fn run(words: &Words) -> Result<(), Failure> {
     let pieces = pieces(words)?;
-    let image = Image::look(words.image(), words.wait())?;
+    let mut image = Image::look(words.image(), words.wait())?;
     let mut diskette = Diskette::new(image.read()?);
     let check = check::check(&mut diskette).map_err(refused(words.image(), "it can't be checked"))?;
     let mut readings = Vec::new();

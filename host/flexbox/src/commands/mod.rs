@@ -1,5 +1,6 @@
 //! The commands, one a module, and what they share.
 
+mod accident;
 mod census;
 mod change;
 mod check;
@@ -14,6 +15,7 @@ pub mod info;
 pub mod list;
 mod pieces;
 mod put;
+mod repair;
 mod report;
 mod table;
 

@@ -1,6 +1,6 @@
 //! The table of commands, and the help that is made of it.
 
-use super::{census, change, check, demo, dump, format, get, info, list, put, report};
+use super::{census, change, check, demo, dump, format, get, info, list, put, repair, report};
 use crate::words::Command;
 use std::fmt::Write;
 
@@ -126,6 +126,23 @@ pub const COMMANDS: &[Command] = &[
         run: format::run,
     },
     Command {
+        name: "repair",
+        usage: "[--dry-run] [--yes] IMAGE",
+        summary: "mend a damaged diskette, and say what each file keeps",
+        details: "Says what is wrong, then what the proved repair leaves: in the order of the slots each file keeps its chain as far as\n\
+                  it goes over sectors that no earlier file has kept, at most as long as it is stated; all else is free. A file\n\
+                  that is rightly chained and shares nothing is kept whole. Then it is done, and the old image is kept beside the\n\
+                  new one as IMAGE.before, or IMAGE.before-2 and on where that is there. Where a rightly chained file would be cut\n\
+                  for an earlier one, it is said how to prevent that, and asked first. docs/REPAIR.md says more.\n\
+                  Exit status 0: nothing was wrong, and nothing is written; 1: repaired; 2: not repaired, with the reason.\n\
+                  \x20 --dry-run  only says what would be done; the exit status is the one that the repair has once it is agreed to\n\
+                  \x20            and can be written\n\
+                  \x20 --yes      does not ask\n",
+        operands: (1, 1),
+        options: &["--dry-run", "--yes"],
+        run: repair::run,
+    },
+    Command {
         name: "dump",
         usage: "IMAGE TRACK,SECTOR",
         summary: "show the bytes of a sector",
@@ -146,11 +163,12 @@ pub const COMMANDS: &[Command] = &[
     },
     Command {
         name: "demo",
-        usage: "IMAGE NEW",
-        summary: "format, put, list, census, get and delete, told step by step",
+        usage: "IMAGE NEW DAMAGED",
+        summary: "format, put, list, census, get, delete and repair, told step by step",
         details: "Formats NEW, a file that is not there yet, fills it with three logs, and reads them back. Then it writes NIGHT.TXT\n\
-                  to IMAGE, reads it back and deletes it. Directory and census are shown in between.\n",
-        operands: (2, 2),
+                  to IMAGE, reads it back and deletes it. Directory and census are shown in between. Then DAMAGED, which is not\n\
+                  there either, becomes a copy of IMAGE in which two files share a sector, and is repaired.\n",
+        operands: (3, 3),
         options: &[],
         run: demo::run,
     },
@@ -176,12 +194,13 @@ const REST: &str = "
 A name has at most 8 characters and an extension at most 3; both begin with a letter and go on with letters, digits,
 hyphens or underscores; upper and lower case differ. Without an extension TXT is taken, but NEW.EXT must have one.
 
-A diskette that the census refuses is not changed but by --force or format --replace, a read-only file by neither.
+A diskette that the census refuses is not changed but by repair, --force or format --replace, a read-only file by none.
 A changed image, or a blank one, is checked, written to a new file beside IMAGE, synced and renamed to it, a change all
 under a lock. A refusal leaves IMAGE as it was.
 
 Exit status: 0 done; 1 refused by the diskette service, or damaged; 2 wrong usage; 3 a file of this machine can't be
-read or may not be written; 4 another program has IMAGE locked.
+read or may not be written; 4 another program has IMAGE locked. Of repair: 0 nothing was wrong; 1 repaired; 2 not
+repaired.
 ";
 
 /// What `help` shows.

@@ -8,4 +8,4 @@ is-served-spec =
     tie.close
     (tie.spec
     (λ c. search (codes, needs)) (λ c. search (codes, needs)) (λ c. search (codes, needs)) (λ c. search (codes, needs))
-    (λ c. search (codes, needs)) (λ c. search (codes, needs)) (λ c. search (codes, needs)))
+    (λ c. search (codes, needs)) (λ c. search (codes, needs)))

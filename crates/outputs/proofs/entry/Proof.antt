@@ -1,7 +1,7 @@
 use borrow.Author.Needs.{needs}
 use Rattle.laws.specs.Bytes.{byte-out}
-use Rattle.slotwalk.proofs.entry.Statement.{statement}
-use Rattle.slotwalk.proofs.entry.Tie as tie
+use Rattle.outputs.proofs.entry.Statement.{statement}
+use Rattle.outputs.proofs.entry.Tie as tie
 
 pub entry-spec : {M : Type 1} → statement M
 entry-spec =

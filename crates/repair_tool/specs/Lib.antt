@@ -1,0 +1,3 @@
+-- What the repair program prints.
+pub mod Reported
+pub mod Promises

@@ -1,0 +1,172 @@
+//! `repair`: says what is wrong and what each file keeps, then mends the diskette and keeps the old image beside it.
+//!
+//! Exit status: 0 nothing was wrong, and nothing is written; 1 repaired; 2 not repaired, with the reason.
+
+use super::{check, plural, print, try_print};
+use crate::check::{file, holder, Owner};
+use crate::failure::Failure;
+use crate::image::Image;
+use crate::input;
+use crate::plan::{Fate, Plan, Repaired};
+use crate::words::Words;
+use flex::{Address, Diskette, Refusal};
+use std::fmt::Write;
+
+pub fn run(words: &Words) -> Result<(), Failure> {
+    let mut image = match words.has("--dry-run") {
+        true => Image::look(words.image(), words.wait())?,
+        false => Image::take(words.image(), words.wait())?,
+    };
+    let old = image.read()?;
+    let mut diskette = Diskette::new(old.clone());
+    let plan = Plan::of(&mut diskette).map_err(|refusal| unrepairable(words, refusal, ""))?;
+    print(check::last_line(words, &plan.check).as_bytes())?;
+    if plan.check.verdict.is_ok() {
+        return Ok(());
+    }
+    print(findings(&plan).as_bytes())?;
+    let repaired = plan.repaired.as_ref().map_err(|&refusal| unrepairable(words, refusal, &reason(&plan, refusal)))?;
+    print(told(words, &plan, repaired, &old).as_bytes())?;
+    if words.has("--dry-run") {
+        print(b"a dry run: nothing is written\n")?;
+        return Err(Failure::Shown);
+    }
+    agree(words, &plan, repaired)?;
+    save(words, image, &old, repaired)?;
+    Err(Failure::Shown)
+}
+
+/// Once it is saved, a line that can't be printed must not hide that.
+fn save(words: &Words, image: Image, old: &[u8], repaired: &Repaired) -> Result<(), Failure> {
+    let disk = words.image().display();
+    let kept = image.save_keeping(old, repaired.diskette.image())?;
+    let line = format!("{}: repaired; the old image is {}", disk, kept.display());
+    try_print(format!("{}\n", line).as_bytes()).map_err(|problem| Failure::File(format!("{}, but {}", line, problem)))
+}
+
+fn unrepairable(words: &Words, refusal: Refusal, why: &str) -> Failure {
+    let colon = if why.is_empty() { "" } else { ": " };
+    Failure::Unrepaired(format!("{}: not repairable: {}{}{}", words.image().display(), refusal, colon, why))
+}
+
+/// What one who reads the refusal needs to know of it.
+fn reason(plan: &Plan, refusal: Refusal) -> String {
+    let first = plan.check.findings.iter().find(|finding| finding.number == refusal.number());
+    let what = first.map_or(String::new(), |finding| finding.to_string());
+    match refusal {
+        Refusal::CensusNames => format!("{}; rename --force gives the first of them another", what),
+        _ => what,
+    }
+}
+
+fn findings(plan: &Plan) -> String {
+    plan.check.findings.iter().map(|finding| format!("  {} {}\n", finding.number, finding)).collect()
+}
+
+/// What each file keeps, what is free then, and which sound files lose something.
+fn told(words: &Words, plan: &Plan, repaired: &Repaired, image: &[u8]) -> String {
+    let mut text = String::from("a repair leaves:\n");
+    for fate in &repaired.fates {
+        let slot = &plan.check.slots[fate.slot - 1];
+        let _ = writeln!(text, "  {}: {}", file(slot), outcome(plan, fate));
+    }
+    let found = match repaired.found {
+        0 => String::new(),
+        found => {
+            format!(", {} of them found again, which {} in no chain", found, if found == 1 { "was" } else { "were" })
+        }
+    };
+    let _ = writeln!(text, "  free: {}{}", plural(repaired.free, "sector"), found);
+    for fate in repaired.wronged() {
+        text.push_str(&wronged(words, plan, fate, image));
+    }
+    text
+}
+
+fn outcome(plan: &Plan, fate: &Fate) -> String {
+    let size = plural(fate.kept, "sector");
+    match fate.is_cut() {
+        true => format!("cut from {} to {}: {}", fate.stated(), size, why_cut(plan, fate)),
+        false if fate.is_right => format!("kept whole, {}{}", size, doubt(plan, fate)),
+        false if fate.kept == 0 => "kept as it is stated, no sector".to_string(),
+        false if fate.next != Address::NONE => {
+            format!("kept as it is stated, {}; behind them its chain led on to {}", size, fate.next)
+        }
+        false => format!("kept as it is stated, {}; another end was stated, {}", size, fate.entry.end),
+    }
+}
+
+/// The repair gives a shared sector to one of its files, and does not know whose bytes stand in it.
+fn doubt(plan: &Plan, fate: &Fate) -> &'static str {
+    match plan.check.of_slot(fate.slot).any(|finding| finding.number == 46) {
+        true => "; what stands where it shared a sector may be another's",
+        false => "",
+    }
+}
+
+fn why_cut(plan: &Plan, fate: &Fate) -> String {
+    let leads = match fate.kept {
+        0 => format!("its start is {}", fate.next),
+        _ => format!("it leads on to {}", fate.next),
+    };
+    match fate.holder {
+        None if fate.next == Address::NONE && fate.kept > 0 => "it ends there".to_string(),
+        None => format!("{}, which is no data sector", leads),
+        Some(Owner::File(slot)) if slot == fate.slot => format!("it leads back to {}", fate.next),
+        Some(owner) => format!("{}, which {} has", leads, holder(owner, &plan.check.slots)),
+    }
+}
+
+/// A sound file that would be cut: for whom, and what one can do about it before.
+fn wronged(words: &Words, plan: &Plan, fate: &Fate, image: &[u8]) -> String {
+    let (disk, name, other) = (words.image().display(), fate.entry.name, taker(plan, fate));
+    let is_damaged =
+        matches!(fate.holder, Some(Owner::File(slot)) if plan.check.of_slot(slot).any(|one| one.number == 45));
+    let which = if is_damaged { "which is damaged and comes before it" } else { "which comes before it" };
+    let mut text = format!("{} is rightly chained, and would be cut for {}, {}.\n", name, other, which);
+    let ways = fate.ways_out(plan, image);
+    if let Some(earlier) = ways.delete {
+        let _ = writeln!(
+            text,
+            "  to keep all of {} and lose {}: flexbox delete --force {} {}, and repair then",
+            name, earlier, disk, earlier
+        );
+    }
+    if ways.save {
+        let _ = writeln!(
+            text,
+            "  to keep what both have now: flexbox get --force {} {}=FILE before, flexbox put --replace {} {}=FILE afterwards",
+            disk, name, disk, name
+        );
+    }
+    text
+}
+
+/// Who has what the file would lose.
+fn taker(plan: &Plan, fate: &Fate) -> String {
+    fate.holder.map_or(String::new(), |owner| holder(owner, &plan.check.slots))
+}
+
+/// Where a sound file would be cut, somebody has to say so.
+fn agree(words: &Words, plan: &Plan, repaired: &Repaired) -> Result<(), Failure> {
+    if words.has("--yes") || repaired.wronged().next().is_none() {
+        return Ok(());
+    }
+    let (disk, cut) = (words.image().display(), would_be_cut(plan, repaired));
+    if !input::can_ask() {
+        let why = "standard input is no terminal to ask at; --yes repairs it all the same";
+        return Err(Failure::Unrepaired(format!("{}: not changed, since {}; {}", disk, cut, why)));
+    }
+    match input::ask(&format!("flexbox: {}: {}. Repair it all the same? [y/N] ", disk, cut)) {
+        true => Ok(()),
+        false => Err(Failure::Unrepaired(format!("{}: not changed", disk))),
+    }
+}
+
+/// The files that are rightly chained and would be cut, and for whom: what was printed of them may have gone to a file, where the one
+/// who is asked does not see it.
+fn would_be_cut(plan: &Plan, repaired: &Repaired) -> String {
+    let one = |fate: &Fate| format!("{} for {}", fate.entry.name, taker(plan, fate));
+    let all: Vec<String> = repaired.wronged().map(one).collect();
+    format!("{} would be cut: {}", plural(all.len(), "rightly chained file"), all.join(", "))
+}

@@ -1,0 +1,158 @@
+//! What a repair does to a diskette, told before it is done. The proved repair is made on a copy, and the two are compared: nothing here
+//! decides what a file keeps.
+
+use crate::check::{self, Check, Owner};
+use flex::{Address, Diskette, Entry, Held, Name, Refusal, Slot, OWNER_DIRECTORY, OWNER_FREE};
+
+/// What is wrong, and what comes out.
+pub struct Plan {
+    pub check: Check,
+    /// Why there is no repair, or the diskette after it.
+    pub repaired: Result<Repaired, Refusal>,
+}
+
+pub struct Repaired {
+    pub diskette: Diskette,
+    /// The live files in the order of their slots.
+    pub fates: Vec<Fate>,
+    /// The sectors that are free then, and those of them that were in no chain.
+    pub free: usize,
+    pub found: usize,
+}
+
+/// What becomes of a file.
+pub struct Fate {
+    pub slot: usize,
+    pub entry: Entry,
+    pub kept: usize,
+    /// Whether its chain was as the slot states it, whoever else has sectors of it.
+    pub is_right: bool,
+    /// Where its chain leads behind what is kept; 0,0 ends it.
+    pub next: Address,
+    /// Who has that sector then, if it is a data sector.
+    pub holder: Option<Owner>,
+}
+
+/// How one who wants a file whole that would be cut can have it, as far as trying it on a copy tells.
+pub struct WaysOut {
+    /// By deleting the file that it would be cut for, before the repair.
+    pub delete: Option<Name>,
+    /// By reading it before the repair and writing it anew afterwards.
+    pub save: bool,
+}
+
+impl Plan {
+    /// Refused is only what is no image of a diskette.
+    pub fn of(diskette: &mut Diskette) -> Result<Plan, Refusal> {
+        let check = check::check(diskette)?;
+        let mut copy = diskette.clone();
+        let repaired = copy.repair().and_then(|()| Repaired::compared(&check, diskette.image(), copy));
+        Ok(Plan { check, repaired })
+    }
+}
+
+impl Repaired {
+    fn compared(check: &Check, image: &[u8], mut diskette: Diskette) -> Result<Repaired, Refusal> {
+        let held = diskette.survey()?;
+        let after = diskette.slots()?;
+        let lost = lost(check);
+        let is_free = |number: u16| held.iter().any(|one| one.sector == number && one.owner == OWNER_FREE);
+        let files = check.slots.iter().zip(&after);
+        Ok(Repaired {
+            fates: files.filter_map(|(old, new)| fate(check, image, &held, old, new)).collect(),
+            free: held.iter().filter(|one| one.owner == OWNER_FREE).count(),
+            found: lost.into_iter().filter(|&number| is_free(number)).count(),
+            diskette,
+        })
+    }
+
+    /// Files that are rightly chained and would be cut all the same: an earlier one, or the directory, has their sectors.
+    pub fn wronged(&self) -> impl Iterator<Item = &Fate> {
+        self.fates.iter().filter(|fate| fate.is_right && fate.is_cut())
+    }
+}
+
+/// The numbers of the data sectors that no chain holds.
+fn lost(check: &Check) -> Vec<u16> {
+    let mut held = vec![false; check.shape.data_sectors()];
+    for &address in check.chains.iter().flat_map(|(_, sectors)| sectors) {
+        held[check.shape.number(address)] = true;
+    }
+    (0..held.len()).filter(|&number| !held[number]).map(|number| number as u16).collect()
+}
+
+fn fate(check: &Check, image: &[u8], held: &[Held], old: &Slot, new: &Slot) -> Option<Fate> {
+    let (entry, after) = (old.entry()?, new.entry()?);
+    let next = match after.sectors {
+        0 => entry.start,
+        _ => Address::at(image, check.shape.offset(after.end)),
+    };
+    let holder = check.shape.is_data(next).then(|| owner(held, check.shape.number(next)));
+    Some(Fate {
+        slot: old.number,
+        entry: entry.clone(),
+        kept: after.sectors as usize,
+        is_right: check.of_slot(old.number).all(|finding| finding.number != 45),
+        next,
+        holder,
+    })
+}
+
+fn owner(held: &[Held], sector: usize) -> Owner {
+    match held.iter().find(|one| one.sector as usize == sector).map_or(OWNER_FREE, |one| one.owner) {
+        OWNER_FREE => Owner::Free,
+        OWNER_DIRECTORY => Owner::Directory,
+        slot => Owner::File(slot.into()),
+    }
+}
+
+impl Fate {
+    pub fn stated(&self) -> usize {
+        self.entry.sectors.into()
+    }
+
+    pub fn is_cut(&self) -> bool {
+        self.kept < self.stated()
+    }
+
+    /// What can be done for this file before the diskette is repaired.
+    pub fn ways_out(&self, plan: &Plan, image: &[u8]) -> WaysOut {
+        let earlier = match self.holder {
+            Some(Owner::File(slot)) => plan.check.slots[slot - 1].entry().map(|entry| entry.name),
+            _ => None,
+        };
+        WaysOut {
+            delete: earlier.filter(|name| self.is_whole_without(name, plan, image)),
+            save: self.is_saved_by_hand(image),
+        }
+    }
+
+    /// Whether the file keeps all its sectors where that other one is deleted first.
+    fn is_whole_without(&self, other: &Name, plan: &Plan, image: &[u8]) -> bool {
+        let mut copy = Diskette::new(image.to_vec());
+        let held = copy.delete(other).and_then(|()| copy.repair()).and_then(|()| copy.survey());
+        let chain = plan.check.chains.iter().find(|(owner, _)| *owner == Owner::File(self.slot));
+        let (held, chain) = match (held, chain) {
+            (Ok(held), Some((_, chain))) => (held, chain),
+            _ => return false,
+        };
+        let own = held.iter().filter(|one| one.owner as usize == self.slot).map(|one| one.sector as usize);
+        own.eq(chain.iter().map(|&address| plan.check.shape.number(address)))
+    }
+
+    /// Whether it can be read as it is, and be written again once the diskette is repaired.
+    fn is_saved_by_hand(&self, image: &[u8]) -> bool {
+        let mut copy = Diskette::new(image.to_vec());
+        let name = &self.entry.name;
+        let bytes = match copy.get(name) {
+            Ok(reading) if reading.is_as_stated() => reading.bytes,
+            _ => return false,
+        };
+        let anew =
+            copy.repair().and_then(|()| copy.delete(name)).and_then(|()| copy.put(name, &bytes, self.entry.date));
+        anew.is_ok()
+    }
+}
+
+#[cfg(test)]
+mod tests;

@@ -1,0 +1,142 @@
+//! What is told of a repair, beside the repair itself, on thousands of damaged diskettes; and the ways out.
+
+use super::*;
+use diskettes::{blank, offset};
+
+/// Numbers that look random and are the same every time.
+struct Numbers(u64);
+
+impl Numbers {
+    fn below(&mut self, limit: usize) -> usize {
+        self.0 ^= self.0 << 13;
+        self.0 ^= self.0 >> 7;
+        self.0 ^= self.0 << 17;
+        (self.0 % limit as u64) as usize
+    }
+}
+
+/// A in 1,1 1,2, B in 1,3 to 1,5, C in 2,1; 2,2 to 2,5 are free.
+fn in_use() -> Vec<u8> {
+    let mut diskette = Diskette::new(blank(2, 5));
+    for (name, sectors) in [("A", 2), ("B", 3), ("C", 1)] {
+        diskette.put(&name.parse().unwrap(), &vec![name.as_bytes()[0]; sectors * 252], [1, 2, 3]).unwrap();
+    }
+    diskette.into_buffers().0
+}
+
+fn slot(number: usize) -> usize {
+    1024 + 16 + 24 * (number - 1)
+}
+
+fn plan(stores: &[(usize, &[u8])]) -> (Plan, Vec<u8>) {
+    let mut image = in_use();
+    for (at, bytes) in stores {
+        image[*at..at + bytes.len()].copy_from_slice(bytes);
+    }
+    (Plan::of(&mut Diskette::new(image.clone())).unwrap(), image)
+}
+
+/// What each file keeps of what it states, and where its chain leads on.
+fn kept(stores: &[(usize, &[u8])]) -> Vec<(usize, usize, Address, Option<Owner>)> {
+    let (plan, _) = plan(stores);
+    let fates = plan.repaired.unwrap().fates;
+    fates.iter().map(|fate| (fate.kept, fate.stated(), fate.next, fate.holder)).collect()
+}
+
+#[test]
+fn what_each_file_keeps_is_told_with_why() {
+    let whole = (1, 1, Address::NONE, None);
+    let b = (3, 3, Address::NONE, None);
+    let (one, at) = (offset(5, 1, 1), Address::new);
+    assert_eq!(kept(&[]), [(2, 2, Address::NONE, None), b, whole]);
+    assert_eq!(kept(&[(one, &[0, 0])]), [(1, 2, Address::NONE, None), b, whole]);
+    assert_eq!(kept(&[(one, &[9, 9])]), [(1, 2, at(9, 9), None), b, whole]);
+    assert_eq!(kept(&[(one, &[1, 1])]), [(1, 2, at(1, 1), Some(Owner::File(1))), b, whole]);
+    let shared = [(one, &[1, 5][..]), (slot(1) + 15, &[1, 5])];
+    let cut = (2, 3, at(1, 5), Some(Owner::File(1)));
+    assert_eq!(kept(&shared), [(2, 2, Address::NONE, None), cut, whole]);
+    let runs_on = [(offset(5, 1, 2), &[2, 2][..])];
+    assert_eq!(kept(&runs_on), [(2, 2, at(2, 2), Some(Owner::Free)), b, whole]);
+    let taken = [(1024, &[1, 3][..]), (offset(5, 1, 3), &[0; 256])];
+    let (plan, _) = plan(&taken);
+    let fates = plan.repaired.unwrap().fates;
+    assert_eq!((fates[1].kept, fates[1].next, fates[1].holder), (0, at(1, 3), Some(Owner::Directory)));
+}
+
+#[test]
+fn lost_sectors_are_counted_and_found_again() {
+    let counts = |stores: &[(usize, &[u8])]| {
+        let repaired = plan(stores).0.repaired.unwrap();
+        (repaired.free, repaired.found)
+    };
+    assert_eq!(counts(&[]), (4, 0));
+    assert_eq!(counts(&[(slot(2), &[255])]), (7, 3));
+    assert_eq!(counts(&[(541, &[0; 6])]), (4, 4));
+    assert_eq!(counts(&[(offset(5, 1, 1), &[9, 9])]), (5, 1));
+}
+
+#[test]
+fn a_file_that_is_rightly_chained_is_told_apart() {
+    let wronged = |stores: &[(usize, &[u8])]| {
+        let repaired = plan(stores).0.repaired.unwrap();
+        repaired.wronged().map(|fate| fate.slot).collect::<Vec<usize>>()
+    };
+    assert_eq!(wronged(&[(offset(5, 1, 1), &[9, 9])]), [0; 0]);
+    assert_eq!(wronged(&[(offset(5, 1, 1), &[1, 5]), (slot(1) + 15, &[1, 5])]), [2]);
+    // A states more than it has, and runs into all of B and C.
+    let into = [(offset(5, 1, 2), &[1, 3][..]), (offset(5, 1, 5), &[2, 1]), (slot(1) + 18, &[9])];
+    assert_eq!(wronged(&into), [3]);
+}
+
+#[test]
+fn a_way_out_is_told_where_it_is_one() {
+    let ways = |stores: &[(usize, &[u8])]| {
+        let (plan, image) = plan(stores);
+        let fates = &plan.repaired.as_ref().unwrap().fates;
+        let ways = fates[1].ways_out(&plan, &image);
+        (ways.delete.map(|name| name.to_string()), ways.save)
+    };
+    let shared = [(offset(5, 1, 1), &[1, 5][..]), (slot(1) + 15, &[1, 5])];
+    assert_eq!(ways(&shared), (Some("A.TXT".to_string()), true));
+    // A protected, B read-protected, a name that no call takes.
+    let more = |at: usize, byte: &'static [u8]| [&shared[..], &[(at, byte)]].concat();
+    assert_eq!(ways(&more(slot(1) + 11, &[128])), (None, true));
+    assert_eq!(ways(&more(slot(2) + 11, &[32])), (Some("A.TXT".to_string()), false));
+    assert_eq!(ways(&more(slot(1), &[1])), (None, true));
+    // The free chain ends in B, which a delete would therefore break.
+    assert_eq!(ways(&more(543, &[1, 3])), (None, true));
+    // However little is free by the record: a repair finds the rest.
+    assert_eq!(ways(&more(541, &[2, 2, 2, 2, 0, 1])), (Some("A.TXT".to_string()), true));
+}
+
+#[test]
+fn what_is_told_is_what_the_repair_does() {
+    let mut numbers = Numbers(0x2545_f491_4f6c_dd1d);
+    let (mut cut, mut wronged) = (0, 0);
+    for _ in 0..5_000 {
+        let mut image = in_use();
+        for _ in 0..1 + numbers.below(3) {
+            let address = [numbers.below(4) as u8, numbers.below(7) as u8];
+            let at = match numbers.below(3) {
+                0 => slot(1 + numbers.below(3)) + 13 + 2 * numbers.below(3),
+                1 => 541 + 2 * numbers.below(2),
+                _ => offset(5, 1 + numbers.below(2), 1 + numbers.below(5)),
+            };
+            image[at..at + 2].copy_from_slice(&address);
+        }
+        let plan = Plan::of(&mut Diskette::new(image.clone())).unwrap();
+        let repaired = plan.repaired.unwrap();
+        let held = repaired.diskette.survey().unwrap();
+        assert_eq!(repaired.fates.len(), 3);
+        for fate in &repaired.fates {
+            let own = held.iter().filter(|one| one.owner as usize == fate.slot).count();
+            assert_eq!((fate.kept, fate.kept <= fate.stated()), (own, true));
+            // What follows a cut is never free: it would have been kept.
+            assert!(!fate.is_cut() || fate.holder != Some(Owner::Free));
+            cut += fate.is_cut() as usize;
+        }
+        wronged += repaired.wronged().count();
+        assert!(repaired.found <= repaired.free);
+    }
+    assert!(cut > 1000 && wronged > 100, "{} {}", cut, wronged);
+}
