@@ -166,6 +166,19 @@ impl Seen {
         self.position == NONE || self.is_data(self.position)
     }
 
+    /// The position is the diskette's last sector; the one behind it by number; the first of a track behind its last.
+    fn is_last_sector(&self) -> bool {
+        self.shape.map_or(false, |shape| self.position == (shape.last, shape.per))
+    }
+
+    fn is_sector_past(&self) -> bool {
+        self.shape.map_or(false, |shape| self.position == (shape.last, shape.per + 1))
+    }
+
+    fn is_track_past(&self) -> bool {
+        self.shape.map_or(false, |shape| self.position == (shape.last + 1, 1))
+    }
+
     /// An open for read by the name of such a slot.
     fn opens(&self, met: impl Fn(&Slot) -> bool) -> bool {
         self.code == 1 && self.names.slot.as_ref().map_or(false, met)
@@ -553,38 +566,20 @@ pub const CALL_SITUATIONS: &[(&str, Met)] = &[
         let is_directorys = a.before.directory.sectors.contains(&a.before.position);
         a.before.code == 10 && a.answer == 0 && is_directorys && a.before.position.0 > 0
     }),
-    ("write sector: the last", |a| {
-        let last = a.before.shape.map_or(NONE, |shape| (shape.last, shape.per));
-        a.before.code == 10 && a.answer == 0 && a.before.position == last
-    }),
+    ("write sector: the last", |a| a.before.code == 10 && a.answer == 0 && a.before.is_last_sector()),
     ("write sector: first free", |a| {
         a.before.code == 10 && a.answer == 0 && a.before.count > 0 && a.before.position == a.before.first
     }),
     ("write sector: while another block writes", |a| a.before.code == 10 && a.answer == 0 && a.another_writes),
     ("write sector: 0,0 refused", |a| a.before.is(10, 0) && a.answer == 10 && a.before.position == NONE),
-    ("write sector: a sector over S refused", |a| {
-        let next = a.before.shape.map_or(NONE, |shape| (shape.last, shape.per + 1));
-        a.before.code == 10 && a.answer == 10 && a.before.position == next
-    }),
-    ("write sector: a track over M refused", |a| {
-        let next = a.before.shape.map_or(NONE, |shape| (shape.last + 1, 1));
-        a.before.code == 10 && a.answer == 10 && a.before.position == next
-    }),
+    ("write sector: a sector over S refused", |a| a.before.code == 10 && a.answer == 10 && a.before.is_sector_past()),
+    ("write sector: a track over M refused", |a| a.before.code == 10 && a.answer == 10 && a.before.is_track_past()),
     // 9
     ("read sector: on track 0", |a| a.before.code == 9 && a.answer == 0 && a.before.position.0 == 0),
-    ("read sector: the last", |a| {
-        let last = a.before.shape.map_or(NONE, |shape| (shape.last, shape.per));
-        a.before.code == 9 && a.answer == 0 && a.before.position == last
-    }),
+    ("read sector: the last", |a| a.before.code == 9 && a.answer == 0 && a.before.is_last_sector()),
     ("read sector: 0,0 refused", |a| a.before.code == 9 && a.answer == 9 && a.before.position == NONE),
-    ("read sector: a sector over S refused", |a| {
-        let next = a.before.shape.map_or(NONE, |shape| (shape.last, shape.per + 1));
-        a.before.code == 9 && a.answer == 9 && a.before.position == next
-    }),
-    ("read sector: a track over M refused", |a| {
-        let next = a.before.shape.map_or(NONE, |shape| (shape.last + 1, 1));
-        a.before.code == 9 && a.answer == 9 && a.before.position == next
-    }),
+    ("read sector: a sector over S refused", |a| a.before.code == 9 && a.answer == 9 && a.before.is_sector_past()),
+    ("read sector: a track over M refused", |a| a.before.code == 9 && a.answer == 9 && a.before.is_track_past()),
     // 12
     ("delete: size 0", |a| a.answer == 0 && a.before.deletes(|slot| slot.size == 0)),
     ("delete: size 0 with addresses that are no data sectors", |a| {

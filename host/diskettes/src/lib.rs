@@ -1,5 +1,6 @@
 //! Blank diskette images, for the tests, the benchmark and the demo diskette: as the service formats them, with a label, a
 //! volume number and a date of zeros, and with other directories than it makes, as another maker's formatter may leave them.
+//! Beside them the numbers by which flexbox's tests damage diskettes.
 
 #![forbid(unsafe_code)]
 
@@ -36,6 +37,26 @@ pub fn with_directory(last: usize, per: usize, directory: &[usize]) -> Vec<u8> {
 fn link(image: &mut [u8], per: usize, from: usize, to: usize) {
     let at = offset(per, 0, from);
     image[at..at + 2].copy_from_slice(&[0, to as u8]);
+}
+
+/// Numbers that look random and are the same every time.
+pub struct Numbers(u64);
+
+impl Numbers {
+    pub fn start() -> Numbers {
+        Numbers(0x2545_f491_4f6c_dd1d)
+    }
+
+    pub fn below(&mut self, limit: usize) -> usize {
+        self.0 ^= self.0 << 13;
+        self.0 ^= self.0 >> 7;
+        self.0 ^= self.0 << 17;
+        (self.0 % limit as u64) as usize
+    }
+
+    pub fn one_of<T: Copy>(&mut self, list: &[T]) -> T {
+        list[self.below(list.len())]
+    }
 }
 
 #[cfg(test)]

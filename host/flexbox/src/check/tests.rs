@@ -2,24 +2,8 @@
 //! the census names, each has a place, and a diskette that the census accepts has none.
 
 use super::*;
-use diskettes::{blank, offset};
+use diskettes::{blank, offset, Numbers};
 use flex::Steps;
-
-/// Numbers that look random and are the same every time.
-struct Numbers(u64);
-
-impl Numbers {
-    fn below(&mut self, limit: usize) -> usize {
-        self.0 ^= self.0 << 13;
-        self.0 ^= self.0 >> 7;
-        self.0 ^= self.0 << 17;
-        (self.0 % limit as u64) as usize
-    }
-
-    fn one_of<T: Copy>(&mut self, list: &[T]) -> T {
-        list[self.below(list.len())]
-    }
-}
 
 /// A.TXT has two sectors, B.TXT three, C.TXT one; one was deleted. Where it is crowded, there are as many files before them as
 /// track 0 has slots, all but one of them gone again, and the directory has taken a sector.
@@ -65,7 +49,7 @@ fn damage(image: &mut [u8], numbers: &mut Numbers, last: usize, per: usize) {
 
 #[test]
 fn the_first_finding_is_the_verdict() {
-    let mut numbers = Numbers(0x2545_f491_4f6c_dd1d);
+    let mut numbers = Numbers::start();
     let mut seen = [0; 47];
     for _ in 0..40_000 {
         let (last, per) = numbers.one_of(&[(2, 5), (1, 9), (3, 6), (2, 8)]);

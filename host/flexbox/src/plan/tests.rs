@@ -1,19 +1,7 @@
 //! What is told of a repair, beside the repair itself, on thousands of damaged diskettes; and the ways out.
 
 use super::*;
-use diskettes::{blank, offset};
-
-/// Numbers that look random and are the same every time.
-struct Numbers(u64);
-
-impl Numbers {
-    fn below(&mut self, limit: usize) -> usize {
-        self.0 ^= self.0 << 13;
-        self.0 ^= self.0 >> 7;
-        self.0 ^= self.0 << 17;
-        (self.0 % limit as u64) as usize
-    }
-}
+use diskettes::{blank, offset, Numbers};
 
 /// A in 1,1 1,2, B in 1,3 to 1,5, C in 2,1; 2,2 to 2,5 are free.
 fn in_use() -> Vec<u8> {
@@ -111,7 +99,7 @@ fn a_way_out_is_told_where_it_is_one() {
 
 #[test]
 fn what_is_told_is_what_the_repair_does() {
-    let mut numbers = Numbers(0x2545_f491_4f6c_dd1d);
+    let mut numbers = Numbers::start();
     let (mut cut, mut wronged) = (0, 0);
     for _ in 0..5_000 {
         let mut image = in_use();
