@@ -1,5 +1,5 @@
 -- What an accepted census says: M·S numbers, each data sector's once, and beside each its owner: 0, 65,534 for the directory, or the number
--- of a live slot, which is neither. And that no second outcome fits the census.
+-- of a live slot. And that no second outcome fits the census.
 use mathlib.Core.Path.{_≡_, refl, sym}
 use mathlib.Core.Logic.{_⊎_, inl, inr}
 use mathlib.Core.Bool.{Bool, true, false}
@@ -12,8 +12,6 @@ use Rattle.rules.specs.Image.{lastTrack, perTrack, freeCount}
 use Rattle.rules.specs.Directory.{directory, slots, live, sizeAt}
 use Rattle.rules.specs.Census.{fileOwners, filesOwners, directoryNumbers, directoryOwner, listed, owners, tally, Survey, survey, census}
 use Rattle.laws.specs.Each.{Each, each-append, each-so, each-at}
-use Rattle.laws.specs.Addresses.{Shape}
-use Rattle.laws.specs.Slots.{numbers-fit}
 use Rattle.laws.specs.Counting.{once-is}
 use Rattle.laws.specs.Surveys.{dataSectors, length-listed, listed-below, length-owners, census-is}
 
@@ -46,10 +44,6 @@ files-owned img k (o ∷ os) =
 -- 0, the directory's, or the number of a live slot
 abbrev pub Owner : List ℕ → ℕ → ℕ → ℕ → Type 0
 Owner img M S v = (v ≡ 0) ⊎ ((v ≡ directoryOwner) ⊎ NumberOf img 1 (slots img M S) v)
-
--- the three kinds are told apart: a slot's number is neither 0 nor the directory's
-pub number-apart : (img : List ℕ) (M S v : ℕ) → Shape M S → NumberOf img 1 (slots img M S) v → (0 < v) × (v < directoryOwner)
-number-apart img M S v z p = (omega (arith, p .2), omega (arith, p .1, p .2, numbers-fit img M S z))
 
 owners-owned : (img : List ℕ) (M S : ℕ) → Each (Owner img M S) (owners img M S)
 unfolding owners

@@ -25,13 +25,6 @@ words-back (x ∷ xs) h = ap₂ (λ (v : ℕ) (l : List ℕ). v ∷ l) (two-back
 pub bytes-injective : (xs ys : List ℕ) → Each (λ (x : ℕ). x < 65536) xs → Each (λ (x : ℕ). x < 65536) ys → asBytes xs ≡ asBytes ys → xs ≡ ys
 bytes-injective xs ys h k e = sym (words-back xs h) ∙ ap words e ∙ words-back ys k
 
--- and any bytes of even length are such: nothing is lost in reading them
-pub words-fit : (m : List ℕ) → Small m → Each (λ (x : ℕ). x < 65536) (words m)
-unfolding words
-words-fit [] s = tt
-words-fit (x ∷ []) s = tt
-words-fit (x ∷ y ∷ m) s = (omega (arith, s .at 0, s .at 1), words-fit m (record { at = λ p. s .at (suc (suc p)) }))
-
 two-of : (x y : ℕ) → x < 256 → y < 256 → two (x * 256 + y) ≡ x ∷ y ∷ []
 unfolding two
 two-of x y h k =
@@ -39,6 +32,7 @@ two-of x y h k =
     let b : (x * 256 + y) % 256 ≡ y = omega arith in
     ap₂ (λ (v w : ℕ). v ∷ w ∷ []) a b
 
+-- and bytes of even length, read as numbers, come back: nothing is lost in reading them
 pub bytes-back : (k : ℕ) (m : List ℕ) → length m ≡ 2 * k → Small m → asBytes (words m) ≡ m
 unfolding words asBytes
 bytes-back k [] l s = refl
