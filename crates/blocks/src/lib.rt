@@ -12,9 +12,12 @@ use cells::put;
 use cells::store;
 use disk::address_of;
 use rules::block::ACTIVITY;
+use rules::block::BLOCK_LENGTH;
+use rules::block::BLOCKS;
 use rules::block::ERROR;
 use rules::block::EXTENSION;
 use rules::block::PLACE;
+use rules::block::TABLE_LENGTH;
 
 // Does a block of this activity count as using its place? One that writes does; one that reads only where readers count.
 fn is_counted(readers: bool, activity: u8) -> bool
@@ -51,7 +54,7 @@ fn has_place(table: &[u8], per: u8, f: u32, slot: u32) -> bool
 fn is_user(readers: bool, table: &[u8], per: u8, slot: u32, n: u8) -> bool
     ensures { λ r. ⌜ r ≡ uses readers (now (table .entry)) (placeOf per slot) n ⌝ }
 {
-    let f = 320 * n as u32;
+    let f = BLOCK_LENGTH as u32 * n as u32;
     let counted = is_counted(readers, get(table, f as usize + ACTIVITY));
     if !counted {
         return false;
@@ -63,7 +66,7 @@ fn is_user(readers: bool, table: &[u8], per: u8, slot: u32, n: u8) -> bool
 pub fn in_use(readers: bool, table: &[u8], per: u8, slot: u32) -> bool
     ensures { λ r. ⌜ r ≡ inUse readers (now (table .entry)) (placeOf per slot) ⌝ }
 {
-    let mut left = 8u8;
+    let mut left = BLOCKS as u8;
     while left > 0 {
         let used = is_user(readers, table, per, slot, left - 1);
         if used {
@@ -127,13 +130,13 @@ fn preset_in(table: &mut [u8], f: u16, offset: usize, value: u8) -> u8
 pub fn preset(table: &mut [u8], fcb: usize, offset: usize, value: u8) -> u8
     ensures { λ r. ⌜ out r 0 [] (now (table .exit)) ≡ left [] (now (table .entry)) (blockAt fcb) (preset (now (table .entry)) fcb offset value) ⌝ }
 {
-    if table.len() != 2560 {
+    if table.len() != TABLE_LENGTH {
         return 13;
     }
-    if fcb >= 8 {
+    if fcb >= BLOCKS {
         return 13;
     }
-    preset_in(table, (320 * fcb) as u16, offset, value)
+    preset_in(table, (BLOCK_LENGTH * fcb) as u16, offset, value)
 }
 
 // The extensions by code.
@@ -184,11 +187,11 @@ fn extension_in(table: &mut [u8], f: u16, code: usize) -> u8
 pub fn default_extension(table: &mut [u8], fcb: usize, code: usize) -> u8
     ensures { λ r. ⌜ out r 0 [] (now (table .exit)) ≡ left [] (now (table .entry)) (blockAt fcb) (extension (now (table .entry)) fcb code) ⌝ }
 {
-    if table.len() != 2560 {
+    if table.len() != TABLE_LENGTH {
         return 13;
     }
-    if fcb >= 8 {
+    if fcb >= BLOCKS {
         return 13;
     }
-    extension_in(table, (320 * fcb) as u16, code)
+    extension_in(table, (BLOCK_LENGTH * fcb) as u16, code)
 }

@@ -22,6 +22,7 @@ use rules::Lookup;
 use rules::Next;
 use rules::place::FIRST_SECTOR;
 use rules::place::FIRST_SLOT;
+use rules::slot::SLOT_LENGTH;
 
 // How far the directory goes: its last sector, and how many sectors it has.
 pub struct Extent {
@@ -288,7 +289,7 @@ fn is_displacement(d: u8) -> bool
     if d > 232 {
         return false;
     }
-    (d - 16) % 24 == 0
+    (d - 16) % SLOT_LENGTH as u8 == 0
 }
 
 // The slot at an address and a displacement.
@@ -320,7 +321,7 @@ pub fn step_slot(image: &[u8], last: u8, per: u8, slot: u32) -> Lookup
     ensures { λ r. ⌜ r ≡ stepSlot (now (image .entry)) last per slot ⌝ }
 {
     if slot % 256 < 232 {
-        return Lookup::At(slot + 24);
+        return Lookup::At(slot + SLOT_LENGTH as u32);
     }
     let a = get2(image, 256 * (slot as usize / 256));
     let next = step_to(last, per, a);

@@ -14,6 +14,7 @@ use rules::slot::ATTRIBUTES;
 use rules::slot::DATE;
 use rules::slot::END;
 use rules::slot::SIZE;
+use rules::slot::SLOT_LENGTH;
 use rules::slot::START;
 
 // Attributes.
@@ -138,7 +139,7 @@ pub fn new_entry(table: &[u8], f: u16) -> Entry
 }
 
 // An entry as its bytes.
-fn packed(entry: Entry) -> [u8; 24]
+fn packed(entry: Entry) -> [u8; SLOT_LENGTH]
     ensures { λ r. ⌜ r ≡ bytesOf entry ⌝ }
 {
     let n = entry.name;

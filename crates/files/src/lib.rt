@@ -48,6 +48,7 @@ use rules::block::NAME;
 use rules::block::NEW_NAME;
 use rules::block::PLACE;
 use rules::block::POSITION;
+use rules::slot::SLOT_LENGTH;
 use taking::free_fault;
 use taking::slot_of;
 use taking::take_off;
@@ -76,7 +77,7 @@ fn open_read_at(image: &[u8], table: &mut [u8], per: u8, f: u16, slot: u32) -> u
     if used {
         return refuse(table, f, 2); // it is being written
     }
-    copy(table, f as usize + NAME, image, slot as usize, 24);
+    copy(table, f as usize + NAME, image, slot as usize, SLOT_LENGTH);
     open_block(table, per, f, 1, slot);
     0
 }
@@ -203,7 +204,7 @@ fn show(image: &[u8], table: &mut [u8], per: u8, f: u16, slot: u32) -> u8
     ensures { λ r. ⌜ out r 0 (now (image .entry)) (now (table .exit)) ≡ left (now (image .entry)) (now (table .entry)) f (settled (shown (now (image .entry)) per slot)) ⌝ }
 {
     put_place(table, f as usize + PLACE, per, slot);
-    copy(table, f as usize + NAME, image, slot as usize, 24);
+    copy(table, f as usize + NAME, image, slot as usize, SLOT_LENGTH);
     put(table, f as usize + ERROR, 0);
     0
 }

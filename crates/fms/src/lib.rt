@@ -24,6 +24,9 @@ use files::rename;
 use files::rewind;
 use raw::put_slot;
 use raw::write_sector;
+use rules::block::BLOCK_LENGTH;
+use rules::block::BLOCKS;
+use rules::block::TABLE_LENGTH;
 use transfer::Given;
 use transfer::close;
 use transfer::read;
@@ -129,11 +132,11 @@ fn on_block(image: &mut [u8], table: &mut [u8], f: u16, byte: u8) -> Reply
 pub fn call(image: &mut [u8], table: &mut [u8], fcb: usize, byte: u8) -> Reply
     ensures { λ r. ⌜ out (r .answer) (r .byte) (now (image .exit)) (now (table .exit)) ≡ left (now (image .entry)) (now (table .entry)) (blockAt fcb) (call (now (image .entry)) (now (table .entry)) fcb byte) ⌝ }
 {
-    if table.len() != 2560 {
+    if table.len() != TABLE_LENGTH {
         return plain(13);
     }
-    if fcb >= 8 {
+    if fcb >= BLOCKS {
         return plain(13);
     }
-    on_block(image, table, (320 * fcb) as u16, byte)
+    on_block(image, table, (BLOCK_LENGTH * fcb) as u16, byte)
 }

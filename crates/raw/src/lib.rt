@@ -16,13 +16,14 @@ use rules::block::BUFFER;
 use rules::block::ERROR;
 use rules::block::NAME;
 use rules::block::POSITION;
+use rules::slot::SLOT_LENGTH;
 use taking::slot_of;
 
 // The block's entry stored in a slot.
 fn put_slot_at(image: &mut [u8], table: &mut [u8], f: u16, slot: u32) -> u8
     ensures { λ r. ⌜ out r 0 (now (image .exit)) (now (table .exit)) ≡ left (now (image .entry)) (now (table .entry)) f (settled (putSlotAt (now (table .entry)) f slot)) ⌝ }
 {
-    copy(image, slot as usize, table, f as usize + NAME, 24);
+    copy(image, slot as usize, table, f as usize + NAME, SLOT_LENGTH);
     put(table, f as usize + ERROR, 0);
     0
 }

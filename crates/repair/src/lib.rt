@@ -40,17 +40,15 @@ use outputs::place;
 use rules::Lookup;
 use rules::Next;
 use rules::block::ACTIVITY;
+use rules::block::BLOCK_LENGTH;
+use rules::block::BLOCKS;
+use rules::block::TABLE_LENGTH;
 use rules::place::FIRST_SECTOR;
 use rules::place::FIRST_SLOT;
 use rules::slot::MAP;
 use rules::slot::SIZE;
 use rules::slot::START;
 use slotwalk::has_twins;
-
-// How many control blocks there are, and how long one is.
-const BLOCKS: u8 = 8;
-
-const BLOCK_LENGTH: usize = 320;
 
 // What a file keeps: its last sector's address, and how many there are.
 struct Kept {
@@ -76,7 +74,7 @@ fn most() -> [u16; 2844]
 fn all_closed(table: &[u8]) -> bool
     ensures { λ r. ⌜ r ≡ allClosed (now (table .entry)) blocks ⌝ }
 {
-    let mut left = BLOCKS;
+    let mut left = BLOCKS as u8;
     while left > 0 {
         let activity = get(table, BLOCK_LENGTH * (left - 1) as usize + ACTIVITY);
         if activity != 0 {
@@ -350,7 +348,7 @@ fn with_marks(image: &mut [u8], last: u8, per: u8) -> u8
 pub fn repair(image: &mut [u8], table: &[u8]) -> u8
     ensures { λ r. ⌜ told r (now (image .exit)) ≡ repair (now (image .entry)) (now (table .entry)) ⌝ }
 {
-    if table.len() != BLOCK_LENGTH * BLOCKS as usize {
+    if table.len() != TABLE_LENGTH {
         return 13;
     }
     let closed = all_closed(table);

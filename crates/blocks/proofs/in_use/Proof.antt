@@ -17,5 +17,5 @@ unfolding inUse
 in-use-spec =
     tie.close
     (tie.spec
-    Inv-loop μ-loop (λ c. refl) (λ c. search needs) (λ c κs. search needs) (λ c. search used-here) (λ c. search needs)
-    (λ c. search needs) (λ c. search used-on) (λ c. search used-none))
+    Inv-loop μ-loop (λ c. search needs) (λ c. refl) (λ c. search needs) (λ c κs. search needs) (λ c. search used-here)
+    (λ c. search needs) (λ c. search needs) (λ c. search used-on) (λ c. search used-none))

@@ -8,5 +8,5 @@ pub is-user-spec : {M : Type 1} → statement M
 is-user-spec =
     tie.close
     (tie.spec
-    (λ c. search needs) (λ c. search needs) (λ c. search needs) (λ c κs. search needs) (λ c κs. search needs)
-    (λ c. search (uses-not, not-true)) (λ c κs. search needs) (λ c. search (uses-same, not-false)))
+    (λ c. search needs) (λ c. search needs) (λ c. search needs) (λ c. search needs) (λ c κs. search needs)
+    (λ c κs. search needs) (λ c. search (uses-not, not-true)) (λ c κs. search needs) (λ c. search (uses-same, not-false)))

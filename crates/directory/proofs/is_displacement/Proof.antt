@@ -9,4 +9,4 @@ unfolding isDisplacement within
 is-displacement-spec =
     tie.close
     (tie.spec
-    (λ c. search tests) (λ c. search tests) (λ c. search tests))
+    (λ c. search tests) (λ c. search tests) (λ c. search tests) (λ c. search tests) (λ c. search tests))

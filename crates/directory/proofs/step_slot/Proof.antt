@@ -7,7 +7,7 @@ pub step-slot-spec : {M : Type 1} → statement M
 step-slot-spec =
     tie.close
     (tie.spec
-    (λ c. search needs) (λ c. search behind-near) (λ c. search needs) (λ c κs. search needs) (λ c κs. search needs)
-    (λ c. search needs) (λ c. search needs) (λ c. search needs) (λ c. search needs) (λ c. search needs)
-    (λ c. search needs) (λ c. search (behind-end, next-by)) (λ c. search (behind-astray, next-by))
+    (λ c. search needs) (λ c. search needs) (λ c. search behind-near) (λ c. search needs) (λ c κs. search needs)
+    (λ c κs. search needs) (λ c. search needs) (λ c. search needs) (λ c. search needs) (λ c. search needs)
+    (λ c. search needs) (λ c. search needs) (λ c. search (behind-end, next-by)) (λ c. search (behind-astray, next-by))
     (λ c. search (behind-to, next-by)))

@@ -18,6 +18,6 @@ pub all-closed-spec : {M : Type 1} → statement M
 all-closed-spec =
     tie.close
     (tie.spec
-    Inv-loop μ-loop (λ c. (refl, omega arith)) (λ c. search needs) (λ c. search needs) (λ c. search needs)
-    (λ c. search needs) (λ c κs. search needs) (λ c. search closed-not) (λ c. search needs) (λ c. search needs)
-    (λ c. (search closed-on, omega arith)) (λ c. search closed-all))
+    Inv-loop μ-loop (λ c. search needs) (λ c. (refl, omega arith)) (λ c. search needs) (λ c. search needs)
+    (λ c. search needs) (λ c. search needs) (λ c κs. search needs) (λ c. search closed-not) (λ c. search needs)
+    (λ c. search needs) (λ c. (search closed-on, omega arith)) (λ c. search closed-all))

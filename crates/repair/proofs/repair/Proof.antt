@@ -8,7 +8,6 @@ pub repair-spec : {M : Type 1} → statement M
 repair-spec =
     tie.close
     (tie.spec
-    (λ c. search needs) (λ c. search needs) (λ c. search repair-table) (λ c κs. search needs)
-    (λ c. search (repair-open, not-true)) (λ c κs. search needs) (λ c. search needs) (λ c κs. search repair-shape)
-    (λ c. search needs) (λ c. search needs) (λ c. search (repair-right, not-false)) (λ c. search needs)
-    (λ c. search (repair-wrong, not-false)))
+    (λ c. search repair-table) (λ c κs. search needs) (λ c. search (repair-open, not-true)) (λ c κs. search needs)
+    (λ c. search needs) (λ c κs. search repair-shape) (λ c. search needs) (λ c. search needs)
+    (λ c. search (repair-right, not-false)) (λ c. search needs) (λ c. search (repair-wrong, not-false)))
