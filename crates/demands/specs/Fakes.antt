@@ -1,5 +1,6 @@
 -- The fakes: services that break the user's words, and so must not meet the demands. Each is ours with one thing changed, but for `refusing`
--- and `idling`, which do nothing at all; in quotes, words of 01 or 02 that it breaks. That they fail is proved in crate `refuted`.
+-- and `idling`, which do nothing at all; in quotes, words of 01 or 02 that it breaks. At the end other orders of the stores of ours. That they fail is
+-- proved in crate `refuted`.
 use mathlib.Core.Bool.{Bool, true, false, not}
 use mathlib.Core.List.{List, [], _∷_, _++_}
 use Prim.Native.Nat.{ℕ, zero, suc, _+_, _-_, _*_}
@@ -8,7 +9,7 @@ use lib.Dec.{eqb, ltb}
 use Rattle.rules.specs.Bytes.{pick, byteAt, wordAt, part, over, one, two, zeros}
 use Rattle.rules.specs.Image.{shapeRight, lastTrack, perTrack, index, adr, firstFree, freeCount}
 use Rattle.rules.specs.Directory.{neverUsed, named, first, live, sizeAt, directory, lastSector, slots, find, attributesAt}
-use Rattle.rules.specs.Stores.{Store, stored}
+use Rattle.rules.specs.Stores.{Store, store, stored}
 use Rattle.rules.specs.Repair.{keeps, allOf, others, mendFiles, links, mendFree, keptIn, freeIn}
 use Rattle.rules.specs.Outcome.{Out, out, Told as Reply, told as replied, saysOf, leftOf}
 use Rattle.rules.specs.Block.{functionIn, activityIn, nameIn}
@@ -19,6 +20,7 @@ use Rattle.rules.specs.declared.Lookup.the-variants.{At, Missing, Broken}
 use Rattle.chains.specs.Once.{rising}
 use Rattle.demands.specs.Service.{Wanted, Service, flex, imgOf}
 use Rattle.demands.specs.Demands.{grows}
+use Rattle.demands.specs.Cuts.{Order, inOrder}
 
 -- ---- ours, changed
 
@@ -423,3 +425,71 @@ barging = withRepair (λ img tab. flex .repair img (zeros 2560))
 abbrev pub shirking : Service
 shirking = withRepair (λ img tab.
     pick (filesRight img (lastTrack img) (perTrack img) (slots img (lastTrack img) (perTrack img))) (flex .repair img tab) (replied 42 img))
+
+-- ---- a power cut: the stores of ours in another order, with stores that are taken back, or in smaller pieces. On the starts that they are tried on
+-- all of them together give our image
+
+-- where the test holds
+abbrev pub reordered : Bool → (List Store → List Store) → List Store → List Store
+reordered t f ss = pick t (f ss) ss
+
+-- the third goes before the second; the fourth before the third; the last before all others
+abbrev pub thirdEarly : List Store → List Store
+thirdEarly [] = []
+thirdEarly (s ∷ []) = s ∷ []
+thirdEarly (s ∷ t ∷ []) = s ∷ t ∷ []
+thirdEarly (s ∷ t ∷ u ∷ ss) = s ∷ u ∷ t ∷ ss
+
+abbrev pub fourthEarly : List Store → List Store
+fourthEarly [] = []
+fourthEarly (s ∷ ss) = s ∷ thirdEarly ss
+
+abbrev pub behindFirst : Store → List Store → List Store
+behindFirst s [] = s ∷ []
+behindFirst s (t ∷ ts) = t ∷ s ∷ ts
+
+abbrev pub lastFirst : List Store → List Store
+lastFirst [] = []
+lastFirst (s ∷ ss) = behindFirst s (lastFirst ss)
+
+-- where the directory grows, the new sector is linked before it is cleared: the record, the link, the clearing, the slot
+abbrev pub linking : Order
+linking img tab n b = reordered (growsBy img tab n) thirdEarly (inOrder img tab n b)
+
+-- where a file takes a sector, its slot has the sector before the sector is there: the slot, the record, the new sector, the link
+abbrev pub slotFirst : Order
+slotFirst img tab n b = reordered (transfers 2 tab n) lastFirst (inOrder img tab n b)
+
+-- a delete marks the slot before the file's sectors are free: the mark, the link, the record. Costs no file, but is not undone
+abbrev pub markFirst : Order
+markFirst img tab n b = reordered (asksFor 12 tab n) lastFirst (inOrder img tab n b)
+
+-- not a fake, for it costs nothing: where the directory grows, the slot is stored before its sector is linked: the record, the clearing, the slot, the link
+abbrev pub naming : Order
+naming img tab n b = reordered (growsBy img tab n) fourthEarly (inOrder img tab n b)
+
+-- a rename has another byte in a boot sector for a while
+abbrev pub scratching : Order
+scratching img tab n b =
+    reordered (asksFor 13 tab n) (λ ss. store 0 0 (one (255 - byteAt img 0)) ∷ store 0 0 (one (byteAt img 0)) ∷ ss) (inOrder img tab n b)
+
+-- a rename has the first free sector behind the directory for a while, cleared; then the link and the sector are as they were
+abbrev pub lingering : Order
+lingering img tab n b =
+    let k = index (perTrack img) (firstFree img) in
+    let last = lastSector img (lastTrack img) (perTrack img) in
+    reordered (asksFor 13 tab n)
+    (λ ss. store k 0 (zeros 256) ∷ store last 0 (two (firstFree img)) ∷ store last 0 (two 0) ∷ store k 0 (part img (256 * k) 256) ∷ ss)
+    (inOrder img tab n b)
+
+-- a medium that tears a sector: every byte is a store of its own
+abbrev pub inBytes : ℕ → ℕ → List ℕ → List Store
+inBytes k i [] = []
+inBytes k i (v ∷ vs) = store k i (one v) ∷ inBytes k (i + 1) vs
+
+abbrev pub torn : List Store → List Store
+torn [] = []
+torn (store k i vs ∷ ss) = inBytes k i vs ++ torn ss
+
+abbrev pub tearing : Order
+tearing img tab n b = torn (inOrder img tab n b)

@@ -5,4 +5,5 @@ pub mod Service
 pub mod History
 pub mod Demands
 pub mod Repairs
+pub mod Cuts
 pub mod Fakes

@@ -1,7 +1,7 @@
 -- What an accepted call changes in the ledger; and what it leaves: other blocks, their files, files that no delete and no rename names.
 use mathlib.Core.Path.{_≡_, refl, sym, ap, _∙_, subst}
-use mathlib.Core.Logic.{_≢_}
-use mathlib.Core.Bool.{true, false}
+use mathlib.Core.Logic.{_≢_, _⊎_, inl, inr}
+use mathlib.Core.Bool.{Bool, true, false}
 use mathlib.Core.List.{List, [], _∷_, _++_, append-nil, append-assoc}
 use Prim.Native.Nat.{ℕ, zero, suc, _+_, _≤_, _<_}
 use native.Mathlib.Omega.{arith}
@@ -10,12 +10,13 @@ use lib.ListN.{length, getD, set, drop, length-append, length-set, List·getD-ap
 use lib.Seq.{getD-set-same, getD-set-other}
 use lib.Dec.{eqb, ltb}
 use borrow.Author.Tests.{eqb-true, eqb-false}
-use Rattle.rules.specs.Bytes.{pick, zeros}
+use Rattle.rules.specs.Bytes.{pick, within, zeros}
 use Rattle.rules.specs.Image.{isSector}
 use Rattle.rules.specs.Names.{legal}
 use Rattle.rules.specs.Directory.{firstSlotOf, live, neverUsed, named, vacant, slotsOf}
 use Rattle.rules.specs.Stores.{put}
 use Rattle.rules.specs.Files.{opened, writeProtected, deleteProtected, readProtected}
+use Rattle.rules.specs.Block.{idle}
 use Rattle.rules.specs.Call.{served, fits}
 use Rattle.laws.specs.Tests.{pick-cases, pick-all}
 use Rattle.chains.specs.Tally.{tally, tally-append}
@@ -25,8 +26,7 @@ use Rattle.demands.specs.Ledger.{File, noFile, Block, closed, listing, reading,
 use Rattle.met.specs.Tames.{last-code}
 use Rattle.met.specs.Relation.{opens, writes, Keeps, Agrees}
 use Rattle.met.specs.Searches.{slot-same, seek-found, vacant-hit, marked-dead}
-use Rattle.laws.specs.Bytes.{length-zeros}
-use Rattle.met.specs.Unused.{length-unused, unused-at, unused-dead}
+use Rattle.met.specs.Unused.{unused-names}
 use Rattle.met.specs.Tidy.{nameOf, Tidy, tidy-set, tidy-more, found-none}
 
 -- ---- the kinds of change
@@ -392,12 +392,49 @@ module _ (a : Ledger) (t : Tidy (a .slots)) where
   tidy-change a′ n q ln lr ow (grew ne k fr ef x) =
       tidy-more (a .slots) (unusedSlots (firstSlotOf k + 24) 9) (newFile (firstSlotOf k) (q .name) (q .date)) t ln
       (λ j b u. found-none (q .name) (a .slots) t x j b u)
-      (λ i h. let e = unused-at (firstSlotOf k + 24) 9 i (omega (arith, h, length-unused (firstSlotOf k + 24) 9)) in
-      (ap (λ (f : File). length (f .name)) e ∙ length-zeros 11, ap (λ (f : File). live (f .name) 0) e ∙ unused-dead))
+      (unused-names (firstSlotOf k + 24) 9)
   tidy-change a′ n q ln lr ow (gone s x y by) = marked s (seek-found (λ x. named x (q .name) 0) (a .slots) s y .low)
   tidy-change a′ n q ln lr ow (retitled s x y by w v) =
       tidy-set (a .slots) t s (withName (file a s) (q .rename)) (seek-found (λ x. named x (q .name) 0) (a .slots) s y .low) lr
       (λ u j ne b k. found-none (q .rename) (a .slots) t v j b k)
+
+-- ---- what a block that writes can call: 0 and 4
+
+writer-fits : (c : ℕ) → fits c 2 ≡ true → (c ≡ 0) ⊎ (c ≡ 4)
+unfolding fits within idle
+writer-fits c = go (eqb c 0) refl (eqb c 4) refl (eqb c 5) (within 7 8 c)
+  where
+    go : (u : Bool) → eqb c 0 ≡ u → (v : Bool) → eqb c 4 ≡ v → (w x : Bool) → pick u true (pick v true (pick w false (pick x false false))) ≡ true → (c ≡ 0) ⊎ (c ≡ 4)
+    go true e v e′ w x h = inl (eqb-true c 0 e)
+    go false e true e′ w x h = inr (eqb-true c 4 e′)
+    go false e false e′ true x h = absurd-bool h refl
+    go false e false e′ false true h = absurd-bool h refl
+    go false e false e′ false false h = absurd-bool h refl
+
+module _ (M S : ℕ) (a : Ledger) (n : ℕ) (q : Request) (s : ℕ) (ub : List ℕ) (w : block a n ≡ writing s ub) where
+  performed-zero : q .code ≡ 0 → performed M S a n q ≡ transferred M S a n q (writing s ub)
+  unfolding performed
+  performed-zero e = rw (e, w) refl
+
+  performed-four : q .code ≡ 4 → performed M S a n q ≡ shutBlock M S a n q (writing s ub)
+  unfolding performed
+  performed-four e = rw (e, w) refl
+
+  pub of-writer : (P : Fate → Type 0) → ((e : ℕ) → P (denied e)) → (q .code ≡ 0 → P (transferred M S a n q (writing s ub)))
+      → (q .code ≡ 4 → P (shutBlock M S a n q (writing s ub))) → P (called M S a n q)
+  unfolding called
+  of-writer P refused sends shuts =
+      pick-all P (served (q .code)) _ _
+      (pick-all P (eqb (q .drive) 0) _ _
+      (pick-cases P (fits (q .code) (activity (block a n))) _ _
+      (λ h. go (writer-fits (q .code) (ap (λ (o : Block). fits (q .code) (activity o)) (sym w) ∙ h)))
+      (λ h. refused _))
+      (refused 16))
+      (refused 1)
+    where
+      go : (q .code ≡ 0) ⊎ (q .code ≡ 4) → P (performed M S a n q)
+      go (inl e) = subst P (sym (performed-zero e)) (sends e)
+      go (inr e) = subst P (sym (performed-four e)) (shuts e)
 
 -- ---- of a ledger that image and table agree with
 

@@ -19,6 +19,7 @@ pub mod Frees
 pub mod Fills
 pub mod Takes
 pub mod Opens
+pub mod Grown
 pub mod Grows
 pub mod Removes
 pub mod Lists

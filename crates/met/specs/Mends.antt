@@ -51,6 +51,9 @@ unfolding allClosed
 closed-all tab h zero b = refl
 closed-all tab h (suc c) b = rw (eq-eqb (activityIn tab (blockAt c)) 0 (h c (omega arith))) (closed-all tab h c (omega arith))
 
+pub closed-table : (tab : List ℕ) → length tab ≡ 2560 → Closed tab → AllClosed tab
+closed-table tab l c = record { long = eq-eqb (length tab) 2560 l; closed = closed-all tab c 8 (omega arith) }
+
 all-closed : (tab : List ℕ) (c : ℕ) → allClosed tab c ≡ true → (n : ℕ) → n < c → activityIn tab (320 * n) ≡ 0
 unfolding allClosed
 all-closed tab zero h n b = absurd (omega arith)
@@ -293,9 +296,6 @@ module _ (x : Machine) (small : Small (x .img)) (e : repairs flex x ≡ 0) where
   broken-off (w ∷ ws) img tab s h t =
       let r = repair-resumed img (x .tab) m s h w in
       broken-off ws (stored img (chosen w (repairStores img (lastTrack img) (perTrack img)))) tab (r .bytes) (r .repairs (x .tab) table) t
-
-  closed-table : (tab : List ℕ) → length tab ≡ 2560 → Closed tab → AllClosed tab
-  closed-table tab l c = record { long = eq-eqb (length tab) 2560 l; closed = closed-all tab c 8 (omega arith) }
 
   module _ (p : ℕ) (h : mends x p ≡ false) where
     not-there : (541 ≤ p → p < 547 → ⊥)

@@ -10,17 +10,16 @@ use lib.ListN.{length, getD}
 use lib.Dec.{eqb}
 use borrow.Author.Tests.{eq-eqb, ne-eqb, eqb-true}
 use Rattle.rules.specs.Bytes.{pick, same}
-use Rattle.rules.specs.Directory.{live, named}
-use Rattle.laws.specs.Bytes.{same-refl, same-eq, part-all}
+use Rattle.rules.specs.Directory.{live}
+use Rattle.laws.specs.Bytes.{same-refl, same-eq}
 use Rattle.laws.specs.Tests.{both}
 use Rattle.laws.specs.Addresses.{Shape}
 use Rattle.chains.specs.Addresses.{absurd-bool}
 use Rattle.demands.specs.Ledger.{Call, setting, extending, asking, File, noFile, Block, closed, Ledger, Request, asks, Fate, denied, granted, reply, slot, fileNamed, block, file, withName, called}
 use Rattle.met.specs.Relation.{writes}
 use Rattle.met.specs.Meets.{Sure, ledgerBy}
-use Rattle.met.specs.Searches.{seek-found, named-hit}
 use Rattle.met.specs.Opens.{legal-live}
-use Rattle.met.specs.Tidy.{nameOf, Tidy, found-there}
+use Rattle.met.specs.Tidy.{nameOf, Tidy, found-there, found-name}
 use Rattle.met.specs.Changes.{Change, Changes, changes, length-grows, rename-legal, Slot, kept, own, fresh, lost, moved, slot-fate, writes-before}
 use Rattle.demands.specs.Service.{flex, Machine, answers, next, entry, log}
 use Rattle.demands.specs.History.{Scene, then, history, scenes, onCall, Plain, hits, nameAfter, nameThen, Survives, Unnamed}
@@ -49,9 +48,7 @@ module _ (a : Ledger) (t : Tidy (a .slots)) (s : ℕ) (f : File) (r : Rests a s 
   found = subst (λ (x : List ℕ). fileNamed x (a .slots) ≡ slot s) name-is (found-there (a .slots) t s (r .low) live-here)
 
   found-back : (nm : List ℕ) → fileNamed nm (a .slots) ≡ slot s → nm ≡ f .name
-  found-back nm e =
-      let q = seek-found (λ x. named x nm 0) (a .slots) s e in
-      sym (named-hit (nameOf (a .slots) s) nm (q .hit) .same) ∙ part-all (nameOf (a .slots) s) 11 (t .long s (r .low)) ∙ name-is
+  found-back nm e = found-name nm (a .slots) t s e ∙ name-is
 
   module _ (n : ℕ) (q : Request) (hn : n < length (a .blocks)) (h8 : n < 8) (a′ : Ledger) (c : Change a n q a′) (spared : q .code ≡ 12 → q .name ≢ f .name) where
     abbrev u : Bool

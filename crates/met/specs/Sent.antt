@@ -54,7 +54,7 @@ fits-one = refl
 
 -- ---- lists of sectors' bytes
 
-concat-snoc : (ds : List (List ℕ)) (d : List ℕ) → concat (ds ++ d ∷ []) ≡ concat ds ++ d
+pub concat-snoc : (ds : List (List ℕ)) (d : List ℕ) → concat (ds ++ d ∷ []) ≡ concat ds ++ d
 concat-snoc [] d = append-nil d
 concat-snoc (x ∷ ds) d = ap (λ (y : List ℕ). x ++ y) (concat-snoc ds d) ∙ sym (append-assoc x (concat ds) d)
 

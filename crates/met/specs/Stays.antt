@@ -1,5 +1,5 @@
 -- What stays after every list of calls: bytes that nobody names, free sectors while they are free, files that no call names. What 7 and 9 deliver.
-use mathlib.Core.Path.{_≡_, refl, sym, ap, _∙_, subst}
+use mathlib.Core.Path.{_≡_, refl, sym, ap, ap₂, _∙_, subst}
 use mathlib.Core.Logic.{_≢_}
 use mathlib.Core.Bool.{true, false}
 use mathlib.Core.List.{List, [], _∷_, _++_}
@@ -17,7 +17,7 @@ use Rattle.rules.specs.Directory.{live, slotsOf, member, placeOf, lastOf}
 use Rattle.rules.specs.Block.{idle}
 use Rattle.rules.specs.Call.{served, fits}
 use Rattle.laws.specs.Tests.{either, neither}
-use Rattle.laws.specs.Bytes.{part-at, part-is, length-part, length-one}
+use Rattle.laws.specs.Bytes.{part-at, part-is, part-join, length-part, length-one}
 use Rattle.laws.specs.Stores.{length-puts, puts-append, puts-at}
 use Rattle.laws.specs.Addresses.{Shape}
 use Rattle.laws.specs.Slots.{length-slots}
@@ -26,14 +26,14 @@ use Rattle.chains.specs.Tally.{tally, tally-append, eq1-same, eq1-ne, in-member
 use Rattle.chains.specs.Chain.{pieces, pieces-at, length-pieces, seg-at, seat, last-getD, tally-getD}
 use Rattle.chains.specs.Directory.{slot-at, slots-append}
 use Rattle.chains.specs.Walk.{chainAt}
-use Rattle.demands.specs.Ledger.{Call, setting, extending, asking, File, Block, listing, Ledger, fcb, file, block, asks, activity, entryOf, imageOf, Fate, denied, granted, ended, reply, setBlock, shownNext, fetched, performed, called}
+use Rattle.demands.specs.Ledger.{Call, setting, extending, asking, File, Block, listing, Ledger, fcb, file, block, asks, activity, entryOf, imageOf, Fate, denied, granted, ended, reply, setBlock, withName, shownNext, fetched, performed, called}
 use Rattle.demands.specs.Service.{flex, Machine, answers, next, entry, log}
 use Rattle.demands.specs.History.{then, history, scenes, raw, Plain}
 use Rattle.demands.specs.Demands.{Asks, Idle, inSlot, inLink}
 use Rattle.met.specs.Relation.{Agrees, all-le, all-low}
 use Rattle.met.specs.Meets.{ledgerBy, putsBy}
 use Rattle.met.specs.Searches.{part-part}
-use Rattle.met.specs.Picture.{link-is, entry-is, sector-is, image-is}
+use Rattle.met.specs.Picture.{link-is, rest-is, entry-is, sector-is, image-is}
 use Rattle.met.specs.Changes.{Changes, changes, Onward, onward-same, onward-then, onward, Freed, same, fewer, more, freed}
 use Rattle.met.specs.Survey.{file-back}
 use Rattle.met.specs.Runs.{sceneOf, Fine, Likewise, asked, beyond, block-after, likewise-set, likewise-extend, likewise-refused, likewise-asked, step}
@@ -208,7 +208,7 @@ module _ (M S : ℕ) (z : Shape M S) where
 
 -- ---- bytes of track 0 that nobody names
 
-not-within : (lo hi p : ℕ) → within lo hi p ≡ false → lo ≤ p → p ≤ hi → ⊥
+pub not-within : (lo hi p : ℕ) → within lo hi p ≡ false → lo ≤ p → p ≤ hi → ⊥
 unfolding within
 not-within lo hi p h u v = absurd-bool (rw (le-leb lo p u, le-leb p hi v) refl) h
 
@@ -317,19 +317,30 @@ module _ (M S : ℕ) (z : Shape M S) (img tab img′ tab′ : List ℕ) (a a′ 
               by zero f = omega (arith, e, f, ap (tally k) (w .dir), tally-append k (a .dir) (w .ks))
               by (suc m) f = absurd (omega (arith, w .behind k (omega (arith, f))))
 
--- ---- a file that stands in two images, in the same slot: its 24 bytes, its sectors and their 256 bytes are the same
+-- ---- a file that stands in two images, in the same slot, under its old name or a new one: the other bytes of its slot, its sectors and their 256 bytes
+-- are the same
 
 module _ (M S : ℕ) (z : Shape M S) (img tab img′ tab′ : List ℕ) (a a′ : Ledger) (r : Agrees M S img tab a) (r′ : Agrees M S img′ tab′ a′)
     (s : ℕ) (hs : s < length (slotsOf (a .dir))) (hs′ : s < length (slotsOf (a′ .dir))) (stood : getD (slotsOf (a′ .dir)) s 0 ≡ getD (slotsOf (a .dir)) s 0)
-    (same-file : file a′ s ≡ file a s) (alive : live (file a s .name) 0 ≡ true) where
+    (nm : List ℕ) (same-file : file a′ s ≡ withName (file a s) nm) (alive : live (file a s .name) 0 ≡ true) (alive-new : live nm 0 ≡ true) where
   abbrev o : ℕ
   o = getD (slotsOf (a .dir)) s 0
 
   alive′ : live (file a′ s .name) 0 ≡ true
-  alive′ = ap (λ (f : File). live (f .name) 0) same-file ∙ alive
+  alive′ = ap (λ (f : File). live (f .name) 0) same-file ∙ alive-new
 
-  pub spared-entry : part img′ o 24 ≡ part img o 24
-  spared-entry = ap (λ (x : ℕ). part img′ x 24) (sym stood) ∙ entry-is M S z img′ tab′ a′ r′ s hs′ ∙ ap entryOf same-file ∙ sym (entry-is M S z img tab a r s hs)
+  pub spared-name : part img′ o 11 ≡ nm
+  spared-name = ap (λ (x : ℕ). part img′ x 11) (sym stood) ∙ r′ .holds s hs′ .name ∙ ap (λ (f : File). f .name) same-file
+
+  pub spared-rest : part img′ (o + 11) 13 ≡ part img (o + 11) 13
+  spared-rest =
+      ap (λ (x : ℕ). part img′ (x + 11) 13) (sym stood) ∙ rest-is M S z img′ tab′ a′ r′ s hs′
+      ∙ ap (λ (f : File). f .mode ++ (f .ends ++ f .date)) same-file ∙ sym (rest-is M S z img tab a r s hs)
+
+  pub spared-entry : nm ≡ file a s .name → part img′ o 24 ≡ part img o 24
+  spared-entry e =
+      sym (part-join img′ 11 13 o (o + 11) refl) ∙ ap₂ (λ (x y : List ℕ). x ++ y) (spared-name ∙ e ∙ sym (r .holds s hs .name)) spared-rest
+      ∙ part-join img 11 13 o (o + 11) refl
 
   chain-is : chainAt S img (o + 13) ≡ file a s .secs
   chain-is = file-back M S z img tab a r s hs alive .0

@@ -3,7 +3,7 @@ use mathlib.Core.Path.{_≡_, refl, sym, ap, ap₂, _∙_, subst}
 use mathlib.Core.Logic.{_≢_}
 use mathlib.Core.Bool.{Bool, true, false}
 use mathlib.Core.List.{List, [], _∷_, _++_}
-use Prim.Native.Nat.{ℕ, zero, suc, _+_, _*_, _<_}
+use Prim.Native.Nat.{ℕ, zero, suc, _+_, _*_, _≤_, _<_}
 use native.Mathlib.Omega.{arith}
 use lib.ListN.{length, getD, replicate, getD-replicate}
 use lib.Seq.{ext-getD}
@@ -20,6 +20,7 @@ use Rattle.chains.specs.Once.{Once}
 use Rattle.chains.specs.Addresses.{Sized}
 use Rattle.chains.specs.Chain.{Chain, pieces, contents}
 use Rattle.chains.specs.Directory.{Listing, directory-is, directory-sound}
+use Rattle.chains.specs.Data.{AllData}
 use Rattle.chains.specs.Walk.{chainAt, length-walk, numbers, length-numbers, dataOf, numbers-data, chain-complete, once-complete}
 use Rattle.chains.specs.Files.{sectorsAt, sectorsIn, listed-had, files-right, right-files, record-at, sound-at, free-sound, sane-once}
 use Rattle.demands.specs.Diskette.{fileAt, filesAt, ledgerOf, ledgerNumbers, ownersFrom, ledgerOwners}
@@ -162,6 +163,27 @@ file-path : (f g : File) → f .at ≡ g .at → f .name ≡ g .name → f .mode
     → f .recs ≡ g .recs → f .body ≡ g .body → f ≡ g
 file-path f g o p m e d q c r = λ i. record { at = o i; name = p i; mode = m i; ends = e i; date = d i; secs = q i; recs = c i; body = r i }
 
+-- a slot that holds a file: its sectors are found by its links, and it is the file
+module _ (M S : ℕ) (z : Shape M S) (m : List ℕ) (o : ℕ) (f : File) (h : Holds S m o f) (all : AllData M S (f .secs)) (few : length (f .secs) ≤ M * S) where
+  live-held : live m o ≡ live (f .name) 0
+  live-held = live-at m (f .name) o (h .name)
+
+  pub chain-held : live (f .name) 0 ≡ true
+      → (chainAt S m (o + 13) ≡ f .secs) × (chainRight m M S (wordAt m (o + 13)) (wordAt m (o + 13 + 2)) (wordAt m (o + 13 + 4)) ≡ true)
+  chain-held v = chain-complete M S z m (o + 13) (f .secs) all few (h .chain v)
+
+  secs-held : sectorsAt S m o ≡ f .secs
+  secs-held = rw live-held (go (live (f .name) 0) refl)
+    where
+      go : (u : Bool) → live (f .name) 0 ≡ u → pick u (chainAt S m (o + 13)) [] ≡ f .secs
+      go true e = chain-held e .0
+      go false e = sym (h .dead e)
+
+  pub file-held : fileAt S m o ≡ f
+  unfolding fileAt
+  file-held =
+      file-path (fileAt S m o) f (sym (h .at)) (h .name) (h .mode) (h .ends) (h .date) secs-held (ap (pieces 2 2 m) secs-held ∙ sym (h .recs)) (ap (contents m) secs-held ∙ sym (h .body))
+
 module _ (M S : ℕ) (z : Shape M S) (img tab : List ℕ) (a : Ledger) (r : Agrees M S img tab a) where
   free-back : (chainAt S img 541 ≡ a .free) × (chainRight img M S (wordAt img 541) (wordAt img (541 + 2)) (wordAt img (541 + 4)) ≡ true)
   free-back = chain-complete M S z img 541 (a .free) (free-data M S z img tab a r) (free-count M S z img tab a r) (r .free)
@@ -169,28 +191,20 @@ module _ (M S : ℕ) (z : Shape M S) (img tab : List ℕ) (a : Ledger) (r : Agre
   pub file-back : (s : ℕ) → s < length (slotsOf (a .dir)) → live ((getD (a .slots) s noFile) .name) 0 ≡ true
       → (chainAt S img (getD (slotsOf (a .dir)) s 0 + 13) ≡ (getD (a .slots) s noFile) .secs)
       × (chainRight img M S (wordAt img (getD (slotsOf (a .dir)) s 0 + 13)) (wordAt img (getD (slotsOf (a .dir)) s 0 + 13 + 2)) (wordAt img (getD (slotsOf (a .dir)) s 0 + 13 + 4)) ≡ true)
-  file-back s b v =
-      chain-complete M S z img (getD (slotsOf (a .dir)) s 0 + 13) ((getD (a .slots) s noFile) .secs) (secs-data M S z img tab a r s b) (secs-count M S z img tab a r s b) (r .holds s b .chain v)
+  file-back s b =
+      chain-held M S z img (getD (slotsOf (a .dir)) s 0) (getD (a .slots) s noFile) (r .holds s b) (secs-data M S z img tab a r s b) (secs-count M S z img tab a r s b)
 
   live-back : (s : ℕ) → s < length (slotsOf (a .dir)) → live img (getD (slotsOf (a .dir)) s 0) ≡ live ((getD (a .slots) s noFile) .name) 0
   live-back s b = live-at img ((getD (a .slots) s noFile) .name) (getD (slotsOf (a .dir)) s 0) (r .holds s b .name)
 
-  secs-back : (s : ℕ) → s < length (slotsOf (a .dir)) → sectorsAt S img (getD (slotsOf (a .dir)) s 0) ≡ (getD (a .slots) s noFile) .secs
-  secs-back s b = rw (live-back s b) (go (live ((getD (a .slots) s noFile) .name) 0) refl)
-    where
-      go : (u : Bool) → live ((getD (a .slots) s noFile) .name) 0 ≡ u
-          → pick u (chainAt S img (getD (slotsOf (a .dir)) s 0 + 13)) [] ≡ (getD (a .slots) s noFile) .secs
-      go true e = file-back s b e .0
-      go false e = sym (r .holds s b .dead e)
+  -- the sectors that a slot has, and the file that stands in it
+  pub secs-back : (s : ℕ) → s < length (slotsOf (a .dir)) → sectorsAt S img (getD (slotsOf (a .dir)) s 0) ≡ (getD (a .slots) s noFile) .secs
+  secs-back s b =
+      secs-held M S z img (getD (slotsOf (a .dir)) s 0) (getD (a .slots) s noFile) (r .holds s b) (secs-data M S z img tab a r s b) (secs-count M S z img tab a r s b)
 
-  -- the file that stands in a slot
   pub file-is : (s : ℕ) → s < length (slotsOf (a .dir)) → fileAt S img (getD (slotsOf (a .dir)) s 0) ≡ getD (a .slots) s noFile
-  unfolding fileAt
   file-is s b =
-      let q = secs-back s b in
-      let w = r .holds s b in
-      file-path (fileAt S img (getD (slotsOf (a .dir)) s 0)) (getD (a .slots) s noFile) (sym (w .at)) (w .name) (w .mode) (w .ends) (w .date) q
-      (ap (pieces 2 2 img) q ∙ sym (w .recs)) (ap (contents img) q ∙ sym (w .body))
+      file-held M S z img (getD (slotsOf (a .dir)) s 0) (getD (a .slots) s noFile) (r .holds s b) (secs-data M S z img tab a r s b) (secs-count M S z img tab a r s b)
 
   pub files-are : filesAt S img (slotsOf (a .dir)) ≡ a .slots
   files-are =

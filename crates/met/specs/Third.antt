@@ -43,7 +43,7 @@ use Rattle.chains.specs.Addresses.{absurd-bool, census-sane}
 first-left : (p : ℕ) (c : List ℕ) → getD (drop p c) 0 0 ≡ getD c p 0
 first-left p c = getD-drop p c 0 0 ∙ ap (λ (i : ℕ). getD c i 0) (omega arith)
 
-begins : (us ws vs : List ℕ) → vs ≡ us ++ ws → Begins us vs
+pub begins : (us ws vs : List ℕ) → vs ≡ us ++ ws → Begins us vs
 begins us ws vs e = e ∙ ap (λ (l : List ℕ). us ++ l) (sym (ap (drop (length us)) e ∙ drop-append us ws))
   where
     drop-append : (us ws : List ℕ) → drop (length us) (us ++ ws) ≡ ws
@@ -249,9 +249,9 @@ module _ (x : Machine) (s : Start x) where
               let r0 = start-fine x s .agrees in
               let t = slot-stood S a h on i b in
               record {
-                slot = spared-entry M S z (x .img) (x .tab) (y .img) (y .tab) a h r0 r i b (t .0) (t .1) e l;
-                sectors = spared-chain M S z (x .img) (x .tab) (y .img) (y .tab) a h r0 r i b (t .0) (t .1) e l;
-                bytes = spared-sectors M S z (x .img) (x .tab) (y .img) (y .tab) a h r0 r i b (t .0) (t .1) e l;
+                slot = spared-entry M S z (x .img) (x .tab) (y .img) (y .tab) a h r0 r i b (t .0) (t .1) (file a i .name) e l l refl;
+                sectors = spared-chain M S z (x .img) (x .tab) (y .img) (y .tab) a h r0 r i b (t .0) (t .1) (file a i .name) e l l;
+                bytes = spared-sectors M S z (x .img) (x .tab) (y .img) (y .tab) a h r0 r i b (t .0) (t .1) (file a i .name) e l l;
               };
         }
 

@@ -7,4 +7,6 @@ pub mod Pair
 pub mod Run
 pub mod Refuted
 pub mod Mended
+pub mod Cuts
+pub mod Nights
 pub mod Blank

@@ -98,7 +98,7 @@ nonsense-small =
     small-over (over pairImage 1058 (one 3)) 1281 (one 9) (small-over pairImage 1058 (one 3) (pair-start .bytes) (small-one 3 (omega arith))) (small-one 9 (omega arith))
 
 -- the census's number, of an image
-abbrev number : List ℕ → ℕ
+abbrev pub number : List ℕ → ℕ
 number img = surveyAnswer (flex .census img (zeros 5) (zeros 5))
 
 -- ---- what is asked of a file there

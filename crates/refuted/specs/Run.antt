@@ -68,12 +68,12 @@ theOutcomes =
 -- ---- what is computed, in one go
 
 -- no call deletes or renames the file of this name
-unhit : List ℕ → List Scene → Bool
+unfoldable pub unhit : List ℕ → List Scene → Bool
 unhit nm [] = true
 unhit nm (c ∷ cs) = pick (hits 12 nm c) false (pick (hits 13 nm c) false (unhit nm cs))
 
 -- no raw write was accepted
-tame : List Scene → Bool
+unfoldable pub tame : List Scene → Bool
 tame [] = true
 tame (c ∷ cs) = pick (raw c) false (tame cs)
 
@@ -160,7 +160,7 @@ not-hit true c h = absurd (never h)
 not-hit false c h = (refl, h)
 
 -- no raw write was accepted
-plainly : (cs : List Scene) → tame cs ≡ true → Plain cs
+pub plainly : (cs : List Scene) → tame cs ≡ true → Plain cs
 unfolding tame
 plainly [] h = tt
 plainly (c ∷ cs) h = let p = not-hit (raw c) (tame cs) h in (p .0, plainly cs (p .1))
@@ -170,7 +170,7 @@ unfolding summary
 trial-plain = plainly (past flex pair trial) (ap (λ (s : Summary). s .plain) computed)
 
 -- A.TXT is spared: live at the start, and no call names it
-unnamed : (nm : List ℕ) (cs : List Scene) → unhit nm cs ≡ true → Unnamed nm cs
+pub unnamed : (nm : List ℕ) (cs : List Scene) → unhit nm cs ≡ true → Unnamed nm cs
 unfolding unhit
 unnamed nm [] h = tt
 unnamed nm (c ∷ cs) h =

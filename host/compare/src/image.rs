@@ -7,6 +7,9 @@ pub type Address = (u8, u8);
 /// 0,0: the end of a chain.
 pub const NONE: Address = (0, 0);
 
+/// Where the image states its last track and the sectors of a track.
+pub const SHAPE: std::ops::Range<usize> = 550..552;
+
 #[derive(Clone, Copy, PartialEq)]
 pub struct Shape {
     pub last: u8,
@@ -23,7 +26,7 @@ pub fn word(bytes: &[u8], at: usize) -> u16 {
 
 impl Shape {
     pub fn of(image: &[u8]) -> Option<Shape> {
-        let shape = Shape { last: *image.get(550)?, per: *image.get(551)? };
+        let shape = Shape { last: *image.get(SHAPE.start)?, per: *image.get(SHAPE.start + 1)? };
         let right = (1..=79).contains(&shape.last)
             && (5..=36).contains(&shape.per)
             && image.len() == (shape.last as usize + 1) * shape.per as usize * 256;

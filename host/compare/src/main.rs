@@ -2,11 +2,12 @@
 //!
 //! First what is tried in full (sweep.rs), then episodes at random until enough calls were made. An episode has a diskette
 //! of its own and one of three moods: calm, where calls alone change it, raw writes only if a repair follows them, so that the
-//! census must accept it in the end; rough, where it is damaged now and then; wild, where control blocks are random too. Each has a seed of its own, so that
-//! a failure is repeated alone and at once.
+//! census must accept it in the end, and where the power fails in many a call (cut.rs); rough, where it is damaged now and then;
+//! wild, where control blocks are random too. Each has a seed of its own, so that a failure is repeated alone and at once.
 
 #![forbid(unsafe_code)]
 
+mod cut;
 mod damage;
 mod formatted;
 mod growth;
@@ -152,7 +153,10 @@ fn episode(seed: u64, number: u64, tally: &mut Tally) -> Checked<()> {
     let mood = random.one_of(&[Mood::Calm, Mood::Rough, Mood::Wild, Mood::Wild]);
     let (last, per) = shape(&mut random);
     let directory = directory(&mut random, per);
-    let image = diskettes::with_directory(last, per, &directory);
+    let mut image = diskettes::with_directory(last, per, &directory);
+    if mood == Mood::Calm && random.chance(70) {
+        fill_track_0(&mut image, per, &directory, &mut random);
+    }
     let mut table = vec![0; flex::TABLE];
     if mood == Mood::Wild && random.chance(50) {
         random.fill(&mut table);
@@ -205,6 +209,23 @@ fn directory(random: &mut Random, per: usize) -> Vec<usize> {
     }
 }
 
+/// What no rule looks at, and nothing may change: boot sectors, label, volume number, date, what lies between a directory sector's
+/// link and its slots, and sectors that nothing uses.
+fn fill_track_0(image: &mut [u8], per: usize, directory: &[usize], random: &mut Random) {
+    for sector in 1..=per {
+        let at = diskettes::offset(per, 0, sector);
+        match sector {
+            3 => {
+                random.fill(&mut image[at..repaired::FREE.start]);
+                random.fill(&mut image[repaired::FREE.end..image::SHAPE.start]);
+                random.fill(&mut image[image::SHAPE.end..at + flex::SECTOR]);
+            }
+            _ if directory.contains(&sector) => random.fill(&mut image[at + 2..at + 16]),
+            _ => random.fill(&mut image[at..at + flex::SECTOR]),
+        }
+    }
+}
+
 fn step(scene: &mut Scene, mood: Mood) -> Checked<()> {
     let (damage_image, damage_block, aim) = match mood {
         Mood::Calm => (0, 0, 0),
@@ -236,6 +257,9 @@ fn step(scene: &mut Scene, mood: Mood) -> Checked<()> {
     }
     if scene.random.chance(aim) {
         return scene.aim();
+    }
+    if mood == Mood::Calm {
+        return scene.work_by_night();
     }
     scene.work()
 }

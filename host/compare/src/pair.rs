@@ -1,6 +1,7 @@
 //! The two services side by side, each on its own copy of both buffers. Every call is made on both; the answers and all
 //! bytes of both buffers must then be equal, margins included.
 
+use crate::cut::Cut;
 use crate::formatted::Formatted;
 use crate::lent::Lent;
 use crate::random::Random;
@@ -9,11 +10,11 @@ use crate::seen::Seen;
 use crate::surveyed::Surveyed;
 use crate::tally::{row_of_call, Tally, CENSUS, ERROR_TEXT, EXTENSION, FORMAT, PRESET, REPAIR};
 use crate::wanted::Wanted;
-use flex::Held;
+use flex::{Held, ACTIVITY, BLOCK, TABLE};
 use std::collections::VecDeque;
 use std::fmt::{self, Write};
 
-/// A call that was made, with all that a repetition needs besides the buffers.
+/// A call that was made, with all that a repetition needs besides the buffers; or a power cut in the one before, and a repair.
 #[derive(Clone, Copy, Debug)]
 #[allow(dead_code)] // the fields are printed
 pub enum Made {
@@ -24,6 +25,7 @@ pub enum Made {
     ErrorText { text: usize, number: u8 },
     Format { image: usize, last: usize, per: usize, label: usize, volume: u16, date: [u8; 3] },
     Repair { image: usize, table: usize },
+    PowerCut,
 }
 
 /// The two services differ, or do together what they must not.
@@ -47,6 +49,8 @@ pub struct Pair<'a> {
     proved: Side,
     tally: &'a mut Tally,
     recent: VecDeque<Made>,
+    /// While the power can fail in any call: where, by chance.
+    cuts: Option<Random>,
 }
 
 /// How many calls are shown before one that differs.
@@ -55,7 +59,7 @@ const SHOWN: usize = 12;
 impl<'a> Pair<'a> {
     pub fn new(image: &[u8], table: &[u8], tally: &'a mut Tally) -> Pair<'a> {
         let side = || Side { image: Lent::new(image), table: Lent::new(table) };
-        Pair { plain: side(), proved: side(), tally, recent: VecDeque::new() }
+        Pair { plain: side(), proved: side(), tally, recent: VecDeque::new(), cuts: None }
     }
 
     pub fn image(&self) -> &[u8] {
@@ -81,6 +85,11 @@ impl<'a> Pair<'a> {
         for side in [&mut self.plain, &mut self.proved] {
             side.table.bytes_mut()[at..at + bytes.len()].copy_from_slice(bytes);
         }
+    }
+
+    /// From now on the power can fail in any call; with none, no more. The diskette must be sound, and only calls may change it.
+    pub fn cut_calls(&mut self, cuts: Option<Random>) {
+        self.cuts = cuts;
     }
 
     pub fn preset(&mut self, fcb: usize, offset: usize, value: u8) -> Checked<u32> {
@@ -116,6 +125,7 @@ impl<'a> Pair<'a> {
     pub fn call_lent(&mut self, image: usize, table: usize, fcb: usize, byte: u8) -> Checked<u32> {
         let row = row_of_call(self.plain.table.lend(table), fcb);
         let before = Seen::before(self.plain.image.lend(image), self.plain.table.lend(table), fcb);
+        let image_before = self.cuts.as_ref().map(|_| self.proved.image.bytes().to_vec());
         let plain = reference::call(self.plain.image.lend(image), self.plain.table.lend(table), fcb, byte);
         let proved = flex::entry::call(self.proved.image.lend(image), self.proved.table.lend(table), fcb, byte);
         let made = Made::Call {
@@ -129,9 +139,37 @@ impl<'a> Pair<'a> {
         self.compare(made, plain, proved)?;
         self.tally.count(row, plain / 256);
         if let Some(seen) = before {
+            let code = seen.code;
             self.tally.note_call(&seen.after(plain / 256, self.plain.table.bytes()));
+            if let Some(image) = image_before.filter(|_| plain / 256 == 0) {
+                self.cut_short(made, code, image)?;
+            }
         }
         Ok(plain / 256)
+    }
+
+    /// The power fails in the call that was made on this image, here and there; after a repair all files must be as before the call or
+    /// as after it. Now and then the work goes on so, with all blocks lost.
+    fn cut_short(&mut self, made: Made, code: u8, before: Vec<u8>) -> Checked<()> {
+        let writing = self.table().chunks(BLOCK).filter(|block| block[ACTIVITY] == 2).count();
+        let cut = Cut::of(code, before, self.proved.image.bytes(), writing);
+        let (cut, random) = match (cut, &mut self.cuts) {
+            (Some(cut), Some(random)) => (cut, random),
+            _ => return Ok(()),
+        };
+        for left in cut.tried(random) {
+            if let Some(fault) = cut.fault(&left) {
+                return Err(self.misdeed(made, &fault));
+            }
+            self.tally.note_cut(&cut, &left);
+            if let Some(morning) = left.morning {
+                self.remember(Made::PowerCut);
+                self.poke_image(0, &morning);
+                self.poke_table(0, &[0; TABLE]);
+                break;
+            }
+        }
+        Ok(())
     }
 
     /// The census with outputs of these lengths, filled with `filler` before.
@@ -240,10 +278,7 @@ impl<'a> Pair<'a> {
 
     /// The answers, then both buffers whole.
     fn compare(&mut self, made: Made, plain: u32, proved: u32) -> Checked<()> {
-        if self.recent.len() == SHOWN {
-            self.recent.pop_front();
-        }
-        self.recent.push_back(made);
+        self.remember(made);
         if plain != proved {
             let text = format!(
                 "answers: reference {} + {}, archive {} + {}",
@@ -262,6 +297,13 @@ impl<'a> Pair<'a> {
             return Err(self.mismatch(made, describe("table", difference)));
         }
         Ok(())
+    }
+
+    fn remember(&mut self, made: Made) {
+        if self.recent.len() == SHOWN {
+            self.recent.pop_front();
+        }
+        self.recent.push_back(made);
     }
 
     fn mismatch(&self, made: Made, what: String) -> Mismatch {

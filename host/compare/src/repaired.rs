@@ -13,7 +13,7 @@ const SIZE: usize = 17;
 const RECORD: std::ops::Range<usize> = START..MAP + 1;
 
 /// First free, last free and free count in the image.
-const FREE: std::ops::Range<usize> = 541..547;
+pub const FREE: std::ops::Range<usize> = 541..547;
 
 /// Why a file keeps so much of its chain and no more.
 #[derive(Clone, Copy, PartialEq)]
@@ -235,7 +235,7 @@ fn store(image: &mut [u8], stores: &[Store]) {
 }
 
 /// What the archive makes of a copy of it.
-fn mended(image: &[u8]) -> Result<Vec<u8>, Refusal> {
+pub fn mended(image: &[u8]) -> Result<Vec<u8>, Refusal> {
     let mut image = image.to_vec();
     flex::repair(&mut image, &[0; TABLE])?;
     Ok(image)

@@ -1,5 +1,6 @@
 //! What the run has reached: each answer of each function, and the situations that are easy to get wrong.
 
+use crate::cut::{Cut, Left, CUT_SITUATIONS};
 use crate::formatted::{Formatted, FORMAT_SITUATIONS};
 use crate::repaired::{Repaired, REPAIR_SITUATIONS};
 use crate::seen::{After, CALL_SITUATIONS};
@@ -73,6 +74,7 @@ pub struct Tally {
     census_situations: Vec<u64>,
     format_situations: Vec<u64>,
     repair_situations: Vec<u64>,
+    cut_situations: Vec<u64>,
 }
 
 impl Tally {
@@ -84,6 +86,7 @@ impl Tally {
             census_situations: vec![0; CENSUS_SITUATIONS.len()],
             format_situations: vec![0; FORMAT_SITUATIONS.len()],
             repair_situations: vec![0; REPAIR_SITUATIONS.len()],
+            cut_situations: vec![0; CUT_SITUATIONS.len()],
         }
     }
 
@@ -108,6 +111,10 @@ impl Tally {
         count_met(&mut self.repair_situations, REPAIR_SITUATIONS, |met| met(repaired, answer));
     }
 
+    pub fn note_cut(&mut self, cut: &Cut, left: &Left) {
+        count_met(&mut self.cut_situations, CUT_SITUATIONS, |met| met(cut, left));
+    }
+
     /// Answers by function, as "answer ×count".
     pub fn answers(&self) -> String {
         let mut text = String::new();
@@ -126,7 +133,8 @@ impl Tally {
         let of_census = counted(&self.census_situations, CENSUS_SITUATIONS);
         let of_format = counted(&self.format_situations, FORMAT_SITUATIONS);
         let of_repair = counted(&self.repair_situations, REPAIR_SITUATIONS);
-        of_calls.chain(of_census).chain(of_format).chain(of_repair)
+        let of_cuts = counted(&self.cut_situations, CUT_SITUATIONS);
+        of_calls.chain(of_census).chain(of_format).chain(of_repair).chain(of_cuts)
     }
 
     /// Each situation with its count.

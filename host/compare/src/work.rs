@@ -3,6 +3,7 @@
 
 use crate::image::is_live;
 use crate::pair::Checked;
+use crate::random::Random;
 use crate::scene::{Scene, IDLE, SLOT_ATTRIBUTES};
 use crate::wanted::{no_last_tracks, no_per_tracks, Wanted, LABEL, NO_LABELS};
 use flex::{
@@ -45,6 +46,15 @@ impl Scene<'_> {
             36 => self.tidy(),
             _ => self.crowd(),
         }
+    }
+
+    /// The same where the power can fail in any call: on a sound diskette, which calls alone have changed.
+    pub fn work_by_night(&mut self) -> Checked<()> {
+        let cuts = Random::new(self.random.next());
+        self.pair.cut_calls(Some(cuts));
+        let done = self.work();
+        self.pair.cut_calls(None);
+        done
     }
 
     fn write_file(&mut self) -> Checked<()> {
