@@ -18,7 +18,7 @@ use Rattle.chains.specs.Directory.{slots-append}
 use Rattle.chains.specs.Walk.{chainAt}
 use Rattle.demands.specs.Ledger.{Call, Ledger}
 use Rattle.demands.specs.Service.{Service, Machine, Entry, run, log}
-use Rattle.demands.specs.History.{then, scenes, Unnamed, Plain}
+use Rattle.demands.specs.History.{then, scenes, changing, Unnamed, Plain}
 use Rattle.demands.specs.Demands.{lastTrackOf, perTrackOf, Start, begun, told, past, inSlot, sectorsIn, slotsIn, placeIn, AsItWas, Demand3}
 use Rattle.demands.specs.Repairs.{mended, LiveFile}
 use Rattle.demands.specs.Cuts.{Order, leftWith, Recovered, Night, called, Retried, storing, copied, morning, nights, Untouched, Passes, Pass, Survivable}
@@ -112,7 +112,7 @@ module _ (σ : Service) (d : Demand3 σ) (x : Machine) (st : Start x) (cs : List
   same-sectors img = let e = shape-run σ d x st cs pl in ap (λ (m : ℕ). directory img m (perTrackOf y)) (e .0) ∙ ap (directory img (lastTrackOf x)) (e .1)
 
   -- the calls of the night carry on a file that none of them deletes or renames
-  carries-run : (s : ℕ) → LiveFile x s → Unnamed (part (x .img) (placeIn x s) 11) (past σ x cs) → Carries x (run σ x cs) s
+  carries-run : (s : ℕ) → LiveFile x s → Unnamed changing (part (x .img) (placeIn x s) 11) (past σ x cs) → Carries x (run σ x cs) s
   carries-run s f u =
       let snd = d x st cs pl in
       record {
@@ -138,22 +138,22 @@ module _ (σ : Service) (d : Demand3 σ) (x : Machine) (st : Start x) (cs : List
       }
 
   carries-night : (most : ℕ) (m tab : List ℕ) → Recovered σ (run σ x cs) (told σ x cs) most m tab → (s : ℕ) → LiveFile x s
-      → Unnamed (part (x .img) (placeIn x s) 11) (past σ x cs) → Carries x (mended σ (leftWith m tab)) s
+      → Unnamed changing (part (x .img) (placeIn x s) 11) (past σ x cs) → Carries x (mended σ (leftWith m tab)) s
   carries-night most m tab r s f u =
       let c = carries-run s f u in
       carries-then x y s f c (mended σ (leftWith m tab)) (carries-repair most m tab r s (still-live x y s f c))
 
 -- what no call of a list names no call of its front does
 module _ (M S : ℕ) (nm : List ℕ) where
-  unnamed-front : (es fs : List Entry) (a : Ledger) → Unnamed nm (scenes M S a (es ++ fs)) → Unnamed nm (scenes M S a es)
+  unnamed-front : (es fs : List Entry) (a : Ledger) → Unnamed changing nm (scenes M S a (es ++ fs)) → Unnamed changing nm (scenes M S a es)
   unfolding scenes
   unnamed-front [] fs a u = tt
-  unnamed-front (e ∷ es) fs a u = (u .0, u .1, unnamed-front es fs (then M S a e) (u .2))
+  unnamed-front (e ∷ es) fs a u = (u .0, unnamed-front es fs (then M S a e) (u .1))
 
-  unnamed-before : (σ : Service) (cs ds : List Call) (x : Machine) (a : Ledger) → Unnamed nm (scenes M S a (log σ x (cs ++ ds)))
-      → Unnamed nm (scenes M S a (log σ x cs))
+  unnamed-before : (σ : Service) (cs ds : List Call) (x : Machine) (a : Ledger) → Unnamed changing nm (scenes M S a (log σ x (cs ++ ds)))
+      → Unnamed changing nm (scenes M S a (log σ x cs))
   unnamed-before σ cs ds x a u =
-      unnamed-front (log σ x cs) (log σ (run σ x cs) ds) a (subst (λ (es : List Entry). Unnamed nm (scenes M S a es)) (log-append σ cs ds x) u)
+      unnamed-front (log σ x cs) (log σ (run σ x cs) ds) a (subst (λ (es : List Entry). Unnamed changing nm (scenes M S a es)) (log-append σ cs ds x) u)
 
 module _ (σ : Service) (w : Order) (d : Demand3 σ) (cut : Survivable σ w) (x : Machine) (st : Start x) (sm : Small (x .tab)) (ν : Night) (p : Passes σ w x ν) where
   either : Recovered σ (run σ x (ν .calls)) (told σ x (ν .calls)) 1 (ν .left) (ν .table)
@@ -180,10 +180,10 @@ module _ (σ : Service) (w : Order) (d : Demand3 σ) (cut : Survivable σ w) (x 
       go (inl r) = by (run σ x (ν .calls)) (told σ x (ν .calls)) 1 r
       go (inr r) = by (run σ x (called ν)) (told σ x (called ν)) 0 r
 
-  carries-on : (s : ℕ) → LiveFile x s → Unnamed (part (x .img) (placeIn x s) 11) (past σ x (called ν)) → Carries x (morning σ ν) s
+  carries-on : (s : ℕ) → LiveFile x s → Unnamed changing (part (x .img) (placeIn x s) 11) (past σ x (called ν)) → Carries x (morning σ ν) s
   carries-on s f u = go either
     where
-      by : (cs : List Call) → Plain (past σ x cs) → Unnamed (part (x .img) (placeIn x s) 11) (past σ x cs) → (most : ℕ)
+      by : (cs : List Call) → Plain (past σ x cs) → Unnamed changing (part (x .img) (placeIn x s) 11) (past σ x cs) → (most : ℕ)
           → Recovered σ (run σ x cs) (told σ x cs) most (ν .left) (ν .table) → Carries x (morning σ ν) s
       by cs pl un most r =
           subst (λ (y : Machine). Carries x y s) (same-morning (run σ x cs) (told σ x cs) most r) (carries-night σ d x st cs pl most (ν .left) (ν .table) r s f un)

@@ -182,14 +182,14 @@ module _ (M S : ℕ) (z : Shape M S) (y : Machine) (a : Ledger) (f : Fine M S y 
     abbrev q : Request
     q = asks a n b
 
-    hit : (code : ℕ) → q .code ≡ code → q .name ≡ file a s .name → hits code (file a s .name) (sceneOf y a (asking n b)) ≡ true
+    hit : (code : ℕ) → q .code ≡ code → q .name ≡ file a s .name → hits code (file a s .name) (sceneOf M S y a (asking n b)) ≡ true
     hit code c e = rw (eq-eqb (answers flex y (asking n b)) 0 ok, eq-eqb (asks a n b .code) code c, e) (same-refl (file a s .name))
 
-    miss : (code : ℕ) → q .code ≢ code → hits code (file a s .name) (sceneOf y a (asking n b)) ≡ false
+    miss : (code : ℕ) → q .code ≢ code → hits code (file a s .name) (sceneOf M S y a (asking n b)) ≡ false
     miss code c = rw (eq-eqb (answers flex y (asking n b)) 0 ok, ne-eqb (asks a n b .code) code c) refl
 
     fares-slot : (w : ℕ) (a′ : Ledger) (ps : List Put) → called M S a n q ≡ granted w a′ ps → Change a n q a′ → Likewise a′ (thereafter (asking n b)) → Slot a a′ n q s
-        → Fares a (thereafter (asking n b)) (sceneOf y a (asking n b)) s
+        → Fares a (thereafter (asking n b)) (sceneOf M S y a (asking n b)) s
     fares-slot w a′ ps e ch l (kept p k) = stays (like-file a′ _ s l ∙ p)
     fares-slot w a′ ps e ch l (own ub p) =
         let k = not-named M S a n q s ub p w a′ ps e in
@@ -200,23 +200,23 @@ module _ (M S : ℕ) (z : Shape M S) (y : Machine) (a : Ledger) (f : Fine M S y 
         turns (hit 13 c (found-name (q .name) (a .slots) (f .tidy) s p)) (like-file a′ _ s l ∙ g low)
         (legal-live (q .rename) (rename-legal a a′ n q ch c))
 
-    fares-accepted : Fares a (thereafter (asking n b)) (sceneOf y a (asking n b)) s
+    fares-accepted : Fares a (thereafter (asking n b)) (sceneOf M S y a (asking n b)) s
     fares-accepted =
         let st = asked M S z y a f n b hn in
         by (called M S a n q) refl (changes M S a n q) (st .sure) (st .ans) (likewise-asked M S y a n b st)
       where
         by : (φ : Fate) → called M S a n q ≡ φ → Changes a n q φ → Sure φ → answers flex y (asking n b) ≡ reply φ → Likewise (ledgerBy a φ) (thereafter (asking n b))
-            → Fares a (thereafter (asking n b)) (sceneOf y a (asking n b)) s
+            → Fares a (thereafter (asking n b)) (sceneOf M S y a (asking n b)) s
         by (denied w) e ch su an l = absurd (su (sym an ∙ ok))
         by (granted w a′ ps) e ch su an l = fares-slot w a′ ps e ch l (slot-fate a a′ n q ch s)
 
-  fares : (c : Call) → Fares a (thereafter c) (sceneOf y a c) s
+  fares : (c : Call) → Fares a (thereafter c) (sceneOf M S y a c) s
   unfolding entry
   fares (setting n i w) = stays (like-file a _ s (likewise-set M S a n i w _ _))
   fares (extending n w) = stays (like-file a _ s (likewise-extend M S a n w _ _))
   fares (asking n b) = go (ℕ-discrete (answers flex y (asking n b)) 0) (decLt n 8)
     where
-      go : Dec (answers flex y (asking n b) ≡ 0) → Dec (n < 8) → Fares a (thereafter (asking n b)) (sceneOf y a (asking n b)) s
+      go : Dec (answers flex y (asking n b) ≡ 0) → Dec (n < 8) → Fares a (thereafter (asking n b)) (sceneOf M S y a (asking n b)) s
       go (no e) h = stays (like-file a _ s (likewise-refused M S a n b _ _ e))
       go (yes e) (no h) = absurd (omega (arith, e, beyond M S z y a f n b (omega arith)))
       go (yes e) (yes h) = fares-accepted n b h e
@@ -472,7 +472,7 @@ after-cut x st cs c p m tab e g =
     record {
       either = e;
       grows = g;
-      others = λ s v hw h12 h13. others x st cs c p m tab s v hw h12 h13 k;
+      others = λ s v hw ms. others x st cs c p m tab s v hw (ms .1 .0) (ms .0) k;
       deleted = λ s v h. deleted x st cs c p m tab s v h k;
       renamed = λ s v h. renamed x st cs c p m tab s v h k;
       written = λ n s ub hn w. written x st cs c p m tab n s ub hn w k;

@@ -21,10 +21,10 @@ use Rattle.laws.specs.Effects.{call-lawful}
 use Rattle.chains.specs.Tally.{tally, tally-head, member-in, member-no, in-member}
 use Rattle.chains.specs.Chain.{tally-last}
 use Rattle.demands.specs.Ledger.{Call, setting, extending, asking, Ledger}
-use Rattle.demands.specs.Service.{flex, Machine, outcome, next}
+use Rattle.demands.specs.Service.{flex, Machine, outcome, next, SendsByte}
 use Rattle.demands.specs.Demands.{sectorsIn}
 use Rattle.demands.specs.Repairs.{SameSector}
-use Rattle.demands.specs.Cuts.{inOrder, storesOf, SendsByte, CutShort, stopped, unlisted, listed}
+use Rattle.demands.specs.Cuts.{inOrder, storesOf, CutShort, stopped, unlisted, listed}
 use Rattle.met.specs.Relation.{Agrees}
 use Rattle.met.specs.Runs.{Fine}
 use Rattle.cutting.specs.Kinds.{Matters, Intact, Harmless, ToDirectory, Staged, none, lone, early, grows, Longer, Comes, before, between, after}

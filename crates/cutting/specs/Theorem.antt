@@ -14,11 +14,11 @@ use Rattle.laws.specs.Facts.{Given}
 use Rattle.laws.specs.Effects.{call-lawful, preset-quiet, extension-quiet}
 use Rattle.chains.specs.Directory.{directory-is}
 use Rattle.demands.specs.Ledger.{Call, setting, extending, asking}
-use Rattle.demands.specs.Service.{flex, Machine, outcome, next, run}
+use Rattle.demands.specs.Service.{flex, Machine, outcome, next, run, SendsByte}
 use Rattle.demands.specs.History.{Plain}
 use Rattle.demands.specs.Demands.{lastTrackOf, perTrackOf, Closed, Start, begun, told, past, sectorsIn}
 use Rattle.demands.specs.Repairs.{SameSector}
-use Rattle.demands.specs.Cuts.{inOrder, storesOf, Makes, SendsByte, CutShort, mendedOf, Recovered, Survivable, PowerCut}
+use Rattle.demands.specs.Cuts.{inOrder, storesOf, Makes, CutShort, mendedOf, Recovered, Survivable, PowerCut}
 use Rattle.met.specs.Joins.{run-more, plain-before}
 use Rattle.met.specs.Runs.{Fine, always, start-shape, start-fine}
 use Rattle.met.specs.Third.{demand3}

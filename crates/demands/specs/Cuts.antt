@@ -15,10 +15,10 @@ use Rattle.rules.specs.Call.{call}
 use Rattle.laws.specs.Each.{Each}
 use Rattle.laws.specs.Small.{Small}
 use Rattle.laws.specs.Stores.{Inside}
-use Rattle.demands.specs.Ledger.{Call, setting, extending, asking, File, writing, Ledger, file, block, asks, holdsOpen, unusedSlots}
+use Rattle.demands.specs.Ledger.{Call, setting, extending, asking, File, writing, Ledger, file, block, asks, holdsOpen, unusedSlots, fate}
 use Rattle.demands.specs.Diskette.{filesAt}
-use Rattle.demands.specs.Service.{Service, imgOf, Machine, answers, gave, next, run}
-use Rattle.demands.specs.History.{Scene, onCall, hits, Unnamed, Plain, concat, front}
+use Rattle.demands.specs.Service.{Service, imgOf, Machine, SendsByte, answers, gave, next, run}
+use Rattle.demands.specs.History.{Scene, onCall, hits, changing, Misses, Unnamed, Plain, concat, front}
 use Rattle.demands.specs.Demands.{lastTrackOf, perTrackOf, inLink, sectorsIn, slotsIn, placeIn, chainOf, wholly, Begins, AsItWas, Closed, Start, told, past}
 use Rattle.demands.specs.Repairs.{repairs, mended, LiveFile, SameSector, brokenOff, bytesOf}
 
@@ -43,12 +43,6 @@ storesOf w y (asking n b) = w (y .img) (y .tab) n b
 pub record Makes (σ : Service) (w : Order) : Type 0 where
   pub image : (img tab : List ℕ) (n b : ℕ) → stored img (w img tab n b) ≡ imgOf (σ .call img tab n b)
   pub sectors : (img tab : List ℕ) (n b : ℕ) → Each (Inside (length img)) (w img tab n b)
-
--- what is preset and sent is a byte: a host can hand over nothing else
-abbrev pub SendsByte : Call → Type 0
-SendsByte (setting n i v) = v < 256
-SendsByte (extending n c) = Unit {0}
-SendsByte (asking n b) = b < 256
 
 -- ---- the image that is left of a call, made on the machine y, which it would have left as y′. The image of y is wholly on the medium: calls are written
 -- one after another
@@ -110,7 +104,8 @@ pub record Recovered (σ : Service) (y : Machine) (a : Ledger) (most : ℕ) (m t
 
 -- after the calls cs, by the history
 abbrev pub sceneAfter : Service → Machine → List Call → Call → Scene
-sceneAfter σ x cs c = record { before = told σ x cs; made = c; ans = answers σ (run σ x cs) c; back = gave σ (run σ x cs) c }
+sceneAfter σ x cs c =
+    record { before = told σ x cs; made = c; due = fate (lastTrackOf x) (perTrackOf x) (told σ x cs) c; ans = answers σ (run σ x cs) c; back = gave σ (run σ x cs) c }
 
 -- its block writes slot s
 abbrev pub writesSlot : Ledger → Call → ℕ → Bool
@@ -137,8 +132,8 @@ pub record AfterCut (σ : Service) (x : Machine) (cs : List Call) (c : Call) (m 
   -- the directory has the sectors of before the call or those of after it
   pub grows : (sectorsIn (run σ x cs) (mendedOf σ m tab) ≡ told σ x cs .dir) ⊎ (sectorsIn (run σ x cs) (mendedOf σ m tab) ≡ told σ x (cs ++ c ∷ []) .dir)
   -- so: a file that the call neither writes nor deletes nor renames keeps every byte
-  pub others : (s : ℕ) → LiveFile (run σ x cs) s → writesSlot (told σ x cs) c s ≡ false → hits 12 (file (told σ x cs) s .name) (sceneAfter σ x cs c) ≡ false
-      → hits 13 (file (told σ x cs) s .name) (sceneAfter σ x cs c) ≡ false → AsItWas (run σ x cs) (mendedOf σ m tab) s
+  pub others : (s : ℕ) → LiveFile (run σ x cs) s → writesSlot (told σ x cs) c s ≡ false → Misses changing (file (told σ x cs) s .name) (sceneAfter σ x cs c)
+      → AsItWas (run σ x cs) (mendedOf σ m tab) s
   -- one that it deletes is whole or gone
   pub deleted : (s : ℕ) → LiveFile (run σ x cs) s → hits 12 (file (told σ x cs) s .name) (sceneAfter σ x cs c) ≡ true
       → AsItWas (run σ x cs) (mendedOf σ m tab) s ⊎ (live (mendedOf σ m tab) (placeIn (run σ x cs) s) ≡ false)
@@ -175,7 +170,7 @@ module _ (σ : Service) where
   -- no call of any night, the cut ones among them, deletes or renames the file of this name
   abbrev pub Untouched : List ℕ → Machine → List Night → Type 0
   Untouched nm x [] = Unit {0}
-  Untouched nm x (ν ∷ νs) = Unnamed nm (past σ x (called ν)) × Untouched nm (morning ν) νs
+  Untouched nm x (ν ∷ νs) = Unnamed changing nm (past σ x (called ν)) × Untouched nm (morning ν) νs
 
 -- what repairs of the image m that were broken off, however often, have left of it: each by the mask of its stores that were made; or each made in a
 -- copy, of which some sectors were written

@@ -7,14 +7,11 @@ use Prim.Native.Nat.{ℕ, zero, suc, _+_, _-_, _*_, _/_, _%_, _≤_, _<_}
 use lib.Dec.{eqb, ltb}
 use lib.ListN.{length, getD, drop}
 use Rattle.rules.specs.Bytes.{pick, within, byteAt, part, over, one, two, zeros}
-use Rattle.rules.specs.Image.{lastTrack, perTrack, index, isSector, firstFree, lastFree}
+use Rattle.rules.specs.Image.{lastTrack, perTrack, index, isSector}
 use Rattle.rules.specs.Names.{legal}
-use Rattle.rules.specs.Directory.{live, member, directory, lastSector, slots, find, vacancy, sizeAt}
+use Rattle.rules.specs.Directory.{live, member, directory, lastSector, slots, sizeAt}
 use Rattle.rules.specs.Outcome.{done, answer, given, settled, out, saysOf, leftOf}
-use Rattle.rules.specs.Block.{functionIn, activityIn, nameIn, positionIn, idle}
-use Rattle.rules.specs.Transfer.{slotIn}
-use Rattle.rules.specs.declared.Lookup.{Lookup}
-use Rattle.rules.specs.declared.Lookup.the-variants.{At, Missing, Broken}
+use Rattle.rules.specs.Block.{functionIn, activityIn, idle}
 use Rattle.rules.specs.Call.{checked, call}
 use Rattle.rules.specs.Census.{Survey, survey, census, tally}
 use Rattle.laws.specs.Small.{Small}
@@ -27,7 +24,7 @@ use Rattle.chains.specs.Walk.{chainAt}
 use Rattle.demands.specs.Ledger.{Call, asking, writesRaw, File, listing, Ledger, file, block, asks, activity, entryOf, imageOf, tableOf, nowhere, slot, fileNamed, slotForNew}
 use Rattle.demands.specs.Diskette.{ledgerOf, ledgerNumbers, ledgerOwners}
 use Rattle.demands.specs.Service.{Wanted, Service, flex, ansOf, byteOf, imgOf, tabOf, Machine, answers, gave, next, entry, run, log}
-use Rattle.demands.specs.History.{Scene, then, history, scenes, Told, Plain, Only, nameThen, Survives, Unnamed, sentBy, Accepts, Reads, shown, filesOn, ahead}
+use Rattle.demands.specs.History.{Scene, then, history, scenes, Told, Plain, Only, ending, changing, nameThen, Survives, Unnamed, sentBy, Accepts, Reads, shown, filesOn, ahead}
 
 -- ---- DEMAND 1: for any bytes of image and table
 
@@ -58,72 +55,9 @@ names code act i =
 unfoldable pub looks : ℕ → ℕ → Bool
 looks code act = pick (eqb code 0) (eqb act 1) (pick (eqb code 4) (pick (eqb act 2) false true) (member code (1 ∷ 5 ∷ 6 ∷ 7 ∷ 9 ∷ [])))
 
--- the slot that a call of this code names, of the block that begins at f: its place's (0, 4, 8), the one for a new file (2), none (10), its name's
--- (12, 13)
-abbrev pub slotNamed : List ℕ → List ℕ → ℕ → ℕ → Lookup
-slotNamed img tab f code =
-    pick (eqb code 0) (slotIn img tab (lastTrack img) (perTrack img) f)
-    (pick (eqb code 4) (slotIn img tab (lastTrack img) (perTrack img) f)
-    (pick (eqb code 8) (slotIn img tab (lastTrack img) (perTrack img) f)
-    (pick (eqb code 2) (vacancy img (lastTrack img) (perTrack img))
-    (pick (eqb code 10) Missing
-    (find img (lastTrack img) (perTrack img) (nameIn tab f))))))
-
--- 02, "When no slot is left": open for write takes a sector for the directory
-abbrev pub isMissing : Lookup → Bool
-isMissing (At o) = false
-isMissing Missing = true
-isMissing Broken = false
-
-abbrev pub grows : List ℕ → ℕ → Bool
-grows img code = pick (eqb code 2) (isMissing (vacancy img (lastTrack img) (perTrack img))) false
-
--- the data sectors: first free and the position (0), the position (4), last free (12), first free where the directory grows (2)
-abbrev pub sectorsNamed : List ℕ → List ℕ → ℕ → ℕ → List ℕ
-sectorsNamed img tab f code =
-    pick (eqb code 0) (index (perTrack img) (firstFree img) ∷ index (perTrack img) (positionIn tab f) ∷ [])
-    (pick (eqb code 4) (index (perTrack img) (positionIn tab f) ∷ [])
-    (pick (eqb code 12) (index (perTrack img) (lastFree img) ∷ [])
-    (pick (grows img code) (index (perTrack img) (firstFree img) ∷ [])
-    [])))
-
--- byte p lies in its 24 bytes
-abbrev pub inNamed : Lookup → ℕ → Bool
-inNamed (At o) p = within o (o + 23) p
-inNamed Missing p = false
-inNamed Broken p = false
-
--- first free, last free and count move when a sector is taken (0; 2 where the directory grows) or a file is deleted (12)
-abbrev pub movesFree : List ℕ → ℕ → Bool
-movesFree img code = pick (eqb code 0) true (pick (eqb code 12) true (grows img code))
-
--- byte p lies in the link of a sector
-abbrev pub inLink : ℕ → ℕ → Bool
-inLink k p = within (256 * k) (256 * k + 1) p
-
--- the sector that is written raw (10), wherever it is
-abbrev pub sectorRaw : List ℕ → List ℕ → ℕ → ℕ
-sectorRaw img tab f = index (perTrack img) (positionIn tab f)
-
--- an accepted call names byte p of the image: the sector that is written raw; the information record's 29-34; the slot; where the directory grows its
--- last sector's link; and, behind track 0, the data sectors
-unfoldable pub named : List ℕ → List ℕ → ℕ → ℕ → ℕ → Bool
-named img tab f code p =
-    pick (pick (eqb code 10) (eqb (p / 256) (sectorRaw img tab f)) false) true
-    (pick (within 541 546 p) (movesFree img code)
-    (pick (inNamed (slotNamed img tab f code) p) true
-    (pick (pick (grows img code) (inLink (lastSector img (lastTrack img) (perTrack img)) p) false) true
-    (pick (ltb p (256 * perTrack img)) false (member (p / 256) (sectorsNamed img tab f code))))))
-
-pub record Demand1 (σ : Service) : Type 0 where
-  -- these six have no past: what 01 and 02 say of them is an equation
-  pub preset : (tab : List ℕ) (n i v : ℕ) → σ .preset tab n i v ≡ flex .preset tab n i v
-  pub extension : (tab : List ℕ) (n c : ℕ) → σ .extension tab n c ≡ flex .extension tab n c
-  pub text : (m : List ℕ) (e : ℕ) → σ .text m e ≡ flex .text m e
-  pub census : (img xs ys : List ℕ) → σ .census img xs ys ≡ flex .census img xs ys
-  pub format : (img : List ℕ) (w : Wanted) → σ .format img w ≡ flex .format img w
-  pub repair : (img tab : List ℕ) → σ .repair img tab ≡ flex .repair img tab
-  -- so format has three numbers and repair six, and their refusals change nothing
+-- what follows from the equations of demand 1, and is there because it is the user's words
+pub record InWords (σ : Service) : Type 0 where
+  -- format has three numbers and repair six, and their refusals change nothing
   pub format-stated : (img : List ℕ) (w : Wanted) → member (saysOf (σ .format img w)) formatNumbers ≡ true
   pub format-refused : (img : List ℕ) (w : Wanted) → saysOf (σ .format img w) ≢ 0 → leftOf (σ .format img w) ≡ img
   pub repair-stated : (img tab : List ℕ) → member (saysOf (σ .repair img tab)) repairNumbers ≡ true
@@ -145,12 +79,21 @@ pub record Demand1 (σ : Service) : Type 0 where
   pub others : (img tab : List ℕ) (n b p : ℕ) → Small tab → (320 * n ≤ p → p < 320 * n + 320 → ⊥) → byteAt (tabOf (σ .call img tab n b)) p ≡ byteAt tab p
   pub unnamed : (img tab : List ℕ) (n b i : ℕ) → Small tab → i < 320 → i ≢ 1 → names (functionIn tab (320 * n)) (activityIn tab (320 * n)) i ≡ false
       → byteAt (tabOf (σ .call img tab n b)) (320 * n + i) ≡ byteAt tab (320 * n + i)
-  -- what only looks leaves the image, and does in every byte of the block what 01 says; the rest changes nothing of the image that it does not name
-  pub looking : (img tab : List ℕ) (n b : ℕ) → looks (functionIn tab (320 * n)) (activityIn tab (320 * n)) ≡ true
-      → (imgOf (σ .call img tab n b) ≡ img) × (σ .call img tab n b ≡ flex .call img tab n b)
-  pub elsewhere : (img tab : List ℕ) (n b p : ℕ) → named img tab (320 * n) (functionIn tab (320 * n)) p ≡ false → byteAt (imgOf (σ .call img tab n b)) p ≡ byteAt img p
-  -- a raw write does in every byte what 02 says: once it is accepted, demands 2 and 3 are silent
-  pub raw : (img tab : List ℕ) (n b : ℕ) → writesRaw (functionIn tab (320 * n)) ≡ true → σ .call img tab n b ≡ flex .call img tab n b
+  -- what only looks leaves the image
+  pub looking : (img tab : List ℕ) (n b : ℕ) → looks (functionIn tab (320 * n)) (activityIn tab (320 * n)) ≡ true → imgOf (σ .call img tab n b) ≡ img
+
+pub record Demand1 (σ : Service) : Type 0 where
+  -- "Each function does what the FLEX Programmer's Manual for the 6800 says, as made exact in document 01": whatever image, table, block and byte are, the
+  -- answer, the byte given, and every byte of image and table are the rules'
+  pub does : (img tab : List ℕ) (n b : ℕ) → σ .call img tab n b ≡ flex .call img tab n b
+  -- so do the other six
+  pub preset : (tab : List ℕ) (n i v : ℕ) → σ .preset tab n i v ≡ flex .preset tab n i v
+  pub extension : (tab : List ℕ) (n c : ℕ) → σ .extension tab n c ≡ flex .extension tab n c
+  pub text : (m : List ℕ) (e : ℕ) → σ .text m e ≡ flex .text m e
+  pub census : (img xs ys : List ℕ) → σ .census img xs ys ≡ flex .census img xs ys
+  pub format : (img : List ℕ) (w : Wanted) → σ .format img w ≡ flex .format img w
+  pub repair : (img tab : List ℕ) → σ .repair img tab ≡ flex .repair img tab
+  pub words : InWords σ
 
 -- ---- the start, for demands 2 and 3
 
@@ -251,9 +194,9 @@ module _ (σ : Service) (M S : ℕ) where
 
   -- whatever is called, short of deleting the file in slot s, its sectors have the record numbers 1, 2, 3, .. and it is read back under its name of then
   pub record Kept (x : Machine) (a : Ledger) (s : ℕ) (nm sent : List ℕ) : Type 0 where
-    pub numbers : (cs : List Call) → Plain (since x a cs) → Survives nm (since x a cs)
+    pub numbers : (cs : List Call) → Plain (since x a cs) → Survives ending nm (since x a cs)
         → pieces 2 2 (run σ x cs .img) (file (toldSince x a cs) s .secs) ≡ counted 1 ((length sent + 251) / 252)
-    pub back : (cs : List Call) → Plain (since x a cs) → Survives nm (since x a cs) → (m b : ℕ) → Asks (toldSince x a cs) m 1
+    pub back : (cs : List Call) → Plain (since x a cs) → Survives ending nm (since x a cs) → (m b : ℕ) → Asks (toldSince x a cs) m 1
         → Idle (toldSince x a cs) m → nameOf (toldSince x a cs) m ≡ nameThen nm (since x a cs)
         → ReadBack (run σ x cs) (toldSince x a cs) (sent ++ zeros (rest (length sent))) m b
 
@@ -288,6 +231,10 @@ abbrev pub Demand2 : Service → Type 0
 Demand2 σ = (x : Machine) → Start x → (cs : List Call) → Plain (past σ x cs) → ComesBack σ x cs
 
 -- ---- DEMAND 3: the diskette stays sound, and is what the history says
+
+-- byte p lies in the link of a sector
+abbrev pub inLink : ℕ → ℕ → Bool
+inLink k p = within (256 * k) (256 * k + 1) p
 
 -- p lies in one of these slots
 unfoldable pub inSlot : ℕ → List ℕ → Bool
@@ -329,7 +276,7 @@ pub record AsItWas (x : Machine) (img : List ℕ) (s : ℕ) : Type 0 where
 
 pub record Sound (σ : Service) (x : Machine) (cs : List Call) : Type 0 where
   -- every answer and every byte is the one that the history predicts; every byte of image and table is what the history says
-  pub answered : Told (lastTrackOf x) (perTrackOf x) (past σ x cs)
+  pub answered : Told (past σ x cs)
   pub image : run σ x cs .img ≡ imageOf (perTrackOf x) (told σ x cs)
   pub table : run σ x cs .tab ≡ tableOf (told σ x cs)
   -- the census accepts, and lists what the history has; each data sector once
@@ -366,7 +313,7 @@ pub record Sound (σ : Service) (x : Machine) (cs : List Call) : Type 0 where
       → member k (told σ x (cs ++ c ∷ []) .free) ≡ true
       → part (run σ x (cs ++ c ∷ []) .img) (256 * k + 2) 254 ≡ part (run σ x cs .img) (256 * k + 2) 254
   -- a file of the start that no accepted call deletes or renames is as it was
-  pub spared : (s : ℕ) → s < length (slotsIn x (x .img)) → live (x .img) (placeIn x s) ≡ true → Unnamed (part (x .img) (placeIn x s) 11) (past σ x cs)
+  pub spared : (s : ℕ) → s < length (slotsIn x (x .img)) → live (x .img) (placeIn x s) ≡ true → Unnamed changing (part (x .img) (placeIn x s) 11) (past σ x cs)
       → AsItWas x (run σ x cs .img) s
 
 abbrev pub Demand3 : Service → Type 0

@@ -3,12 +3,12 @@
 -- proved in crate `refuted`.
 use mathlib.Core.Bool.{Bool, true, false, not}
 use mathlib.Core.List.{List, [], _∷_, _++_}
-use Prim.Native.Nat.{ℕ, zero, suc, _+_, _-_, _*_}
+use Prim.Native.Nat.{ℕ, zero, suc, _+_, _-_, _*_, _%_}
 use lib.ListN.{length, take}
 use lib.Dec.{eqb, ltb}
 use Rattle.rules.specs.Bytes.{pick, byteAt, wordAt, part, over, one, two, zeros}
-use Rattle.rules.specs.Image.{shapeRight, lastTrack, perTrack, index, adr, firstFree, freeCount}
-use Rattle.rules.specs.Directory.{neverUsed, named, first, live, sizeAt, directory, lastSector, slots, find, attributesAt}
+use Rattle.rules.specs.Image.{shapeRight, lastTrack, perTrack, index, adr, firstFree, lastFree, freeCount}
+use Rattle.rules.specs.Directory.{neverUsed, named, first, live, sizeAt, directory, lastSector, slots, find, vacancy, attributesAt}
 use Rattle.rules.specs.Stores.{Store, store, stored}
 use Rattle.rules.specs.Repair.{keeps, allOf, others, mendFiles, links, mendFree, keptIn, freeIn}
 use Rattle.rules.specs.Outcome.{Out, out, Told as Reply, told as replied, saysOf, leftOf}
@@ -19,34 +19,41 @@ use Rattle.rules.specs.declared.Lookup.{Lookup}
 use Rattle.rules.specs.declared.Lookup.the-variants.{At, Missing, Broken}
 use Rattle.chains.specs.Once.{rising}
 use Rattle.demands.specs.Service.{Wanted, Service, flex, imgOf}
-use Rattle.demands.specs.Demands.{grows}
+use Rattle.demands.specs.Demands.{surveyAnswer, dataSectors}
 use Rattle.demands.specs.Cuts.{Order, inOrder}
 
 -- ---- ours, changed
 
--- another call; another census; another format; another repair
-abbrev pub withCall : (List ℕ → List ℕ → ℕ → ℕ → Out) → Service
-withCall f =
-    record { preset = flex .preset; extension = flex .extension; call = f; census = flex .census; text = flex .text; format = flex .format; repair = flex .repair }
+-- a service by its entries, in the order of `Service`
+abbrev pub service : (List ℕ → ℕ → ℕ → ℕ → Reply) → (List ℕ → ℕ → ℕ → Reply) → (List ℕ → List ℕ → ℕ → ℕ → Out) → (List ℕ → List ℕ → List ℕ → Survey) → (List ℕ → ℕ → Reply)
+    → (List ℕ → Wanted → Reply) → (List ℕ → List ℕ → Reply) → Service
+service p e c s t f r = record { preset = p; extension = e; call = c; census = s; text = t; format = f; repair = r }
 
-abbrev pub withCensus : (Survey → Survey) → Service
-withCensus f = record {
-  preset = flex .preset;
-  extension = flex .extension;
-  call = flex .call;
-  census = λ img xs ys. f (flex .census img xs ys);
-  text = flex .text;
-  format = flex .format;
-  repair = flex .repair;
-}
+-- ours, but for one entry
+abbrev pub withPreset : (List ℕ → ℕ → ℕ → ℕ → Reply) → Service
+withPreset p = service p (flex .extension) (flex .call) (flex .census) (flex .text) (flex .format) (flex .repair)
+
+abbrev pub withExtension : (List ℕ → ℕ → ℕ → Reply) → Service
+withExtension e = service (flex .preset) e (flex .call) (flex .census) (flex .text) (flex .format) (flex .repair)
+
+abbrev pub withCall : (List ℕ → List ℕ → ℕ → ℕ → Out) → Service
+withCall c = service (flex .preset) (flex .extension) c (flex .census) (flex .text) (flex .format) (flex .repair)
+
+abbrev pub withCensus : (List ℕ → List ℕ → List ℕ → Survey) → Service
+withCensus s = service (flex .preset) (flex .extension) (flex .call) s (flex .text) (flex .format) (flex .repair)
+
+abbrev pub withText : (List ℕ → ℕ → Reply) → Service
+withText t = service (flex .preset) (flex .extension) (flex .call) (flex .census) t (flex .format) (flex .repair)
 
 abbrev pub withFormat : (List ℕ → Wanted → Reply) → Service
-withFormat f =
-    record { preset = flex .preset; extension = flex .extension; call = flex .call; census = flex .census; text = flex .text; format = f; repair = flex .repair }
+withFormat f = service (flex .preset) (flex .extension) (flex .call) (flex .census) (flex .text) f (flex .repair)
 
 abbrev pub withRepair : (List ℕ → List ℕ → Reply) → Service
-withRepair f =
-    record { preset = flex .preset; extension = flex .extension; call = flex .call; census = flex .census; text = flex .text; format = flex .format; repair = f }
+withRepair r = service (flex .preset) (flex .extension) (flex .call) (flex .census) (flex .text) (flex .format) r
+
+-- a census of which the report is changed
+abbrev pub reporting : (Survey → Survey) → Service
+reporting f = withCensus (λ img xs ys. f (flex .census img xs ys))
 
 -- block n asks for this function; it asks for function 0, and its activity is 1 (it reads) or 2 (it writes)
 abbrev pub asksFor : ℕ → List ℕ → ℕ → Bool
@@ -77,15 +84,9 @@ instead e t other (out a b img tab) = pick (pick (eqb a e) t false) other (out a
 
 -- everything is refused. "Preset writes one byte: offset 0 always"
 abbrev pub refusing : Service
-refusing = record {
-  preset = λ tab n i v. replied 18 tab;
-  extension = λ tab n c. replied 13 tab;
-  call = λ img tab n b. refusal 18 img tab n;
-  census = λ img xs ys. survey 41 xs ys;
-  text = λ m e. replied 40 m;
-  format = λ img w. replied 41 img;
-  repair = λ img tab. replied 13 img;
-}
+refusing =
+    service (λ tab n i v. replied 18 tab) (λ tab n c. replied 13 tab) (λ img tab n b. refusal 18 img tab n) (λ img xs ys. survey 41 xs ys) (λ m e. replied 40 m)
+    (λ img w. replied 41 img) (λ img tab. replied 13 img)
 
 -- every call is refused, and no more. "the first deleted or never-used slot in order gets name and date"
 abbrev pub deaf : Service
@@ -93,15 +94,8 @@ deaf = withCall (λ img tab n b. refusal 18 img tab n)
 
 -- nothing is done, and 0 answered. "11 the slot's attributes have .. write protect"
 abbrev pub idling : Service
-idling = record {
-  preset = λ tab n i v. replied 0 tab;
-  extension = λ tab n c. replied 0 tab;
-  call = λ img tab n b. out 0 0 img tab;
-  census = flex .census;
-  text = flex .text;
-  format = flex .format;
-  repair = flex .repair;
-}
+idling =
+    service (λ tab n i v. replied 0 tab) (λ tab n c. replied 0 tab) (λ img tab n b. out 0 0 img tab) (flex .census) (flex .text) (flex .format) (flex .repair)
 
 -- one fixed byte on every read. "Returns the buffer byte at the index"
 abbrev pub stamped : Bool → Out → Out
@@ -130,14 +124,14 @@ abbrev pub fewer : Survey → Survey
 fewer (survey a xs ys) = pick (eqb a 0) (survey a (shorter xs) (shorter ys)) (survey a xs ys)
 
 abbrev pub counting : Service
-counting = withCensus fewer
+counting = reporting fewer
 
 -- a census with an invented list: all sectors in rising order, all free. "the listed sector's owner"
 abbrev pub allFree : Survey → Survey
 allFree (survey a xs ys) = pick (eqb a 0) (survey a (rising 0 (length xs)) (zeros (length ys))) (survey a xs ys)
 
 abbrev pub inventing : Service
-inventing = withCensus allFree
+inventing = reporting allFree
 
 -- ---- more
 
@@ -151,15 +145,7 @@ deleting = withCall (λ img tab n b. flex .call img (pick (asksFor 1 tab n) (ove
 
 -- a default extension stores function 12. "bytes 12-14 take the code's entry"
 abbrev pub misextending : Service
-misextending = record {
-  preset = flex .preset;
-  extension = λ tab n c. replied 0 (leftOf (flex .preset tab n 0 12));
-  call = flex .call;
-  census = flex .census;
-  text = flex .text;
-  format = flex .format;
-  repair = flex .repair;
-}
+misextending = withExtension (λ tab n c. replied 0 (leftOf (flex .preset tab n 0 12)))
 
 -- where the shape is wrong, image and table are wiped and 0 is answered. "16 image shape wrong"
 abbrev pub wiping : Service
@@ -197,6 +183,10 @@ swapping = withImage (transfers 2) swapped
 -- a byte sent changes the boot sector. "Bytes not named here stay"
 abbrev pub booting : Service
 booting = withImage (transfers 2) (λ img. over img 0 (one 99))
+
+-- a delete counts one free sector too few. "the size is added to the count"
+abbrev pub miscounting : Service
+miscounting = withImage (asksFor 12) (λ img. over img 545 (two (freeCount img - 1)))
 
 -- a byte read leaves a wrong position. "Position .. follow"
 abbrev pub misplacing : Service
@@ -284,7 +274,85 @@ abbrev pub interleaving : Service
 interleaving = withFormat (λ img w.
     replyWith (λ new. over (over (over new 541 (1 ∷ 2 ∷ [])) (256 * w .per) (1 ∷ 3 ∷ [])) (256 * (w .per + 1)) (1 ∷ 1 ∷ [])) (flex .format img w))
 
+-- ---- on damaged images. Where the census refuses the image, and the call is accepted, more is changed; where the census accepts they are ours, so
+-- that demands 2 and 3 have nothing against them
+
+abbrev pub damaged : List ℕ → Bool
+damaged img = not (eqb (surveyAnswer (flex .census img (zeros (dataSectors img)) (zeros (dataSectors img)))) 0)
+
+abbrev pub harming : (List ℕ → ℕ → Bool) → (List ℕ → List ℕ → ℕ → List ℕ → List ℕ) → Service
+harming test f = withCall (λ img tab n b. spoilt (pick (damaged img) (test tab n) false) (f img tab n) (λ m. m) (flex .call img tab n b))
+
+-- a byte sent takes a sector and leaves the free chain as it was, so that the next file gets the sector too. "First free moves to that sector's link, count falls
+-- by 1"
+abbrev pub doubling : Service
+doubling = harming (transfers 2) (λ img tab n m. over m 541 (part img 541 6))
+
+-- a rename empties the file. "New name to slot and FCB"
+abbrev pub emptied : List ℕ → Lookup → List ℕ
+emptied m (At o) = over m (o + 13) (zeros 6)
+emptied m Missing = m
+emptied m Broken = m
+
+abbrev pub gutting : Service
+gutting = harming (asksFor 13) (λ img tab n m. emptied m (slotOfName img tab n))
+
+-- a delete clears the sector that last free names, whosever it is, all but its link. "size 0 only marks"
+abbrev pub scouring : Service
+scouring = harming (asksFor 12) (λ img tab n m. over m (256 * index (perTrack img) (lastFree img) + 2) (zeros 254))
+
+-- ---- more, on any bytes
+
+-- function 8 clears the image and answers 0, whatever the block does: a raw write, after which nothing more would be asked of it. "functions 8 (activity
+-- 16; 5)"
+abbrev pub posing : Service
+posing = withCall (λ img tab n b. pick (asksFor 8 tab n) (out 0 0 (zeros (length img)) tab) (flex .call img tab n b))
+
+-- a census that answers 45 leaves its outputs as they were lent. "42-46 fill both outputs with 65,535"
+abbrev pub relent : List ℕ → List ℕ → Survey → Survey
+relent xs ys (survey a us ws) = pick (eqb a 45) (survey a xs ys) (survey a us ws)
+
+abbrev pub leaving : Service
+leaving = withCensus (λ img xs ys. relent xs ys (flex .census img xs ys))
+
+-- byte 36 of the block counts its accepted calls. "Bytes not named here stay"
+abbrev pub remembering : Service
+remembering = withTable (λ tab n. true) (λ n tab. over tab (320 * n + 36) (one ((byteAt tab (320 * n + 36) + 1) % 256)))
+
+-- where 10 is due for a byte sent, 0 is answered and nothing done. "first free not a data sector or size 65,535 (10)"
+abbrev pub wrapping : Service
+wrapping = withCall (λ img tab n b. instead 10 (transfers 2 tab n) (out 0 0 img (over tab (320 * n + 1) (one 0))) (flex .call img tab n b))
+
+-- the error text has a 0 behind it. "three digits in the first 15 bytes; the rest stays"
+abbrev pub overlong : Service
+overlong = withText (λ m e. replyWith (λ t. over t 15 (one 0)) (flex .text m e))
+
+-- a format leaves the volume number out. "label, number and date at 16-26, 27-28 and 35-37"
+abbrev pub numberless : Service
+numberless = withFormat (λ img w. replyWith (λ m. over m 539 (zeros 2)) (flex .format img w))
+
+-- a close sets the function to 0. "Bytes not named here stay"
+abbrev pub tidying : Service
+tidying = withTable (asksFor 4) (λ n tab. over tab (320 * n) (one 0))
+
+-- function 9 gives track 0 to nobody. "any existing sector at 30-31 to the buffer, else 9"
+abbrev pub hiding : Service
+hiding = withCall (λ img tab n b. instead 0 (pick (asksFor 9 tab n) (eqb (byteAt tab (320 * n + 30)) 0) false) (refusal 9 img tab n) (flex .call img tab n b))
+
+-- a table of 2,561 bytes is taken. "13 table length not 2,560"
+abbrev pub widening : Service
+widening = withCall (λ img tab n b. pick (eqb (length tab) 2561) (out 0 0 img tab) (flex .call img tab n b))
+
 -- ---- 02, "The directory grows"
+
+-- 02, "When no slot is left": open for write takes a sector for the directory
+abbrev pub isMissing : Lookup → Bool
+isMissing (At o) = false
+isMissing Missing = true
+isMissing Broken = false
+
+abbrev pub grows : List ℕ → ℕ → Bool
+grows img code = pick (eqb code 2) (isMissing (vacancy img (lastTrack img) (perTrack img))) false
 
 -- a call by which the directory grows
 abbrev pub growsBy : List ℕ → List ℕ → ℕ → Bool
@@ -327,7 +395,7 @@ abbrev pub masked : Survey → Survey
 masked (survey a xs ys) = pick (eqb a 0) (survey a xs (unmarked ys)) (survey a xs ys)
 
 abbrev pub masking : Service
-masking = withCensus masked
+masking = reporting masked
 
 -- ---- 02, "Raw writing"
 
@@ -342,15 +410,7 @@ straying = withCall (λ img tab n b.
 
 -- a preset refuses the buffer's bytes, as it once did. "preset taking 15-24 and 64-319 too"
 abbrev pub narrow : Service
-narrow = record {
-  preset = λ tab n i v. pick (ltb i 64) (flex .preset tab n i v) (replied 18 tab);
-  extension = flex .extension;
-  call = flex .call;
-  census = flex .census;
-  text = flex .text;
-  format = flex .format;
-  repair = flex .repair;
-}
+narrow = withPreset (λ tab n i v. pick (ltb i 64) (flex .preset tab n i v) (replied 18 tab))
 
 -- ---- 02, "Repair"
 
@@ -416,6 +476,14 @@ scrubbed m (k ∷ ks) = over (scrubbed m ks) (256 * k + 2) (zeros 254)
 
 abbrev pub scrubbing : Service
 scrubbing = withMended (λ img m. scrubbed m (freeIn img (lastTrack img) (perTrack img)))
+
+-- byte 23 of a random file that is cut stays. "a cut random file's byte 23 becomes 0"
+unfoldable pub mapsLeft : List ℕ → List ℕ → List ℕ → List ℕ
+mapsLeft old m [] = m
+mapsLeft old m (o ∷ os) = pick (live old o) (over (mapsLeft old m os) (o + 19) (one (byteAt old (o + 19)))) (mapsLeft old m os)
+
+abbrev pub mapping : Service
+mapping = withMended (λ img m. mapsLeft img m (slots img (lastTrack img) (perTrack img)))
 
 -- open blocks are not looked at. "with all FCBs closed (13 for the table, then 2)"
 abbrev pub barging : Service

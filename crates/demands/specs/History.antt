@@ -10,7 +10,7 @@ use Rattle.rules.specs.Bytes.{pick, part, one, same}
 use Rattle.rules.specs.Stores.{put}
 use Rattle.rules.specs.Directory.{live, placeOf, member, slots}
 use Rattle.rules.specs.Block.{uses}
-use Rattle.demands.specs.Ledger.{Call, setting, extending, asking, blockOf, writesRaw, File, Block, closed, listing, reading, writing, Ledger, file, block, asks, holdsOpen, putInto, fate, reply, gives, after}
+use Rattle.demands.specs.Ledger.{Call, setting, extending, asking, blockOf, writesRaw, File, Block, closed, listing, reading, writing, Ledger, file, block, asks, holdsOpen, putInto, Fate, fate, reply, gives, after}
 use Rattle.demands.specs.Diskette.{filesAt}
 use Rattle.demands.specs.Service.{Entry}
 
@@ -22,10 +22,11 @@ noted a (setting n i v) e = a
 noted a (extending n c) e = a
 noted a (asking n b) e = putInto a n (put 1 (one e) ∷ [])
 
--- a call of the log, and the ledger that the history had before it
+-- a call of the log: the ledger that the history had before it, the call, what it comes to there, and what was answered and given
 pub record Scene : Type 0 where
   pub before : Ledger
   pub made : Call
+  pub due : Fate
   pub ans : ℕ
   pub back : ℕ
 
@@ -41,12 +42,12 @@ module _ (M S : ℕ) where
 
   unfoldable pub scenes : Ledger → List Entry → List Scene
   scenes a [] = []
-  scenes a (e ∷ es) = record { before = a; made = e .made; ans = e .ans; back = e .back } ∷ scenes (then a e) es
+  scenes a (e ∷ es) = record { before = a; made = e .made; due = fate M S a (e .made); ans = e .ans; back = e .back } ∷ scenes (then a e) es
 
-  -- every answer, and every byte, is as predicted
-  abbrev pub Told : List Scene → Type 0
-  Told [] = Unit {0}
-  Told (c ∷ cs) = (c .ans ≡ reply (fate M S (c .before) (c .made))) × (c .back ≡ gives (fate M S (c .before) (c .made))) × Told cs
+-- every answer, and every byte, is as predicted
+abbrev pub Told : List Scene → Type 0
+Told [] = Unit {0}
+Told (c ∷ cs) = (c .ans ≡ reply (c .due)) × (c .back ≡ gives (c .due)) × Told cs
 
 -- ---- what a call of the log asked for, by the history
 
@@ -80,20 +81,32 @@ unfoldable pub nameThen : List ℕ → List Scene → List ℕ
 nameThen nm [] = nm
 nameThen nm (c ∷ cs) = nameThen (nameAfter nm c) cs
 
--- it is not deleted; it is neither deleted nor renamed
-abbrev pub Survives : List ℕ → List Scene → Type 0
-Survives nm [] = Unit {0}
-Survives nm (c ∷ cs) = (hits 12 nm c ≡ false) × Survives (nameAfter nm c) cs
+-- the functions that end a file, under its name; and those that change it, its name too
+abbrev pub ending : List ℕ
+ending = 12 ∷ []
 
-abbrev pub Unnamed : List ℕ → List Scene → Type 0
-Unnamed nm [] = Unit {0}
-Unnamed nm (c ∷ cs) = (hits 12 nm c ≡ false) × (hits 13 nm c ≡ false) × Unnamed nm cs
+abbrev pub changing : List ℕ
+changing = 13 ∷ ending
 
--- it was a raw write (function 8 or 10), and accepted
+-- it is none of these functions on the file of this name
+abbrev pub Misses : List ℕ → List ℕ → Scene → Type 0
+Misses [] nm c = Unit {0}
+Misses (code ∷ codes) nm c = (hits code nm c ≡ false) × Misses codes nm c
+
+-- none of these functions comes to the file, whatever its name is by then; none comes to the file of this name
+abbrev pub Survives : List ℕ → List ℕ → List Scene → Type 0
+Survives codes nm [] = Unit {0}
+Survives codes nm (c ∷ cs) = Misses codes nm c × Survives codes (nameAfter nm c) cs
+
+abbrev pub Unnamed : List ℕ → List ℕ → List Scene → Type 0
+Unnamed codes nm [] = Unit {0}
+Unnamed codes nm (c ∷ cs) = Misses codes nm c × Unnamed codes nm cs
+
+-- it is a raw write (function 8 or 10) that is due to be accepted: by the history, whatever a service answers
 abbrev pub raw : Scene → Bool
-raw c = onCall (c .made) false (λ m b. pick (writesRaw (asks (c .before) m b .code)) (eqb (c .ans) 0) false)
+raw c = onCall (c .made) false (λ m b. pick (writesRaw (asks (c .before) m b .code)) (eqb (reply (c .due)) 0) false)
 
--- PLAIN CALLS: no raw write was accepted. Of other lists demands 2 and 3 say nothing: they speak again from a start
+-- PLAIN CALLS: no raw write is due. Of other lists demands 2 and 3 say nothing: they speak again from a start
 abbrev pub Plain : List Scene → Type 0
 Plain [] = Unit {0}
 Plain (c ∷ cs) = (raw c ≡ false) × Plain cs
@@ -136,7 +149,7 @@ Reads n p l (c ∷ cs) =
     × (calls n 5 c ≡ true → c .ans ≡ 0)
     × Reads n (readTo n p l c) l cs
 
--- ---- files as they are shown: name, attributes, date, and bytes
+-- ---- files as they are shown: name, attributes, the byte of the sector map, date, and bytes
 
 abbrev pub concat : List (List ℕ) → List ℕ
 concat [] = []
@@ -154,12 +167,13 @@ content body ub = pick (eqb (length ub) 0) (concat body) (concat (front body) ++
 pub record Shown : Type 0 where
   pub name : List ℕ
   pub mode : List ℕ
+  pub map : List ℕ
   pub date : List ℕ
   pub bytes : List ℕ
 
 -- a file, of which a block holds the bytes ub
 abbrev pub asShown : File → List ℕ → Shown
-asShown f ub = record { name = f .name; mode = f .mode; date = f .date; bytes = content (f .body) ub }
+asShown f ub = record { name = f .name; mode = f .mode; map = f .map; date = f .date; bytes = content (f .body) ub }
 
 -- in the ledger: the bytes that a block still holds of slot s
 unfoldable pub pending : List Block → ℕ → ℕ → List ℕ

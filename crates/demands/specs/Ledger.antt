@@ -37,13 +37,15 @@ writesRaw code = pick (eqb code 8) true (eqb code 10)
 
 -- a sector is its index in the whole image, t·S + s - 1, and `adr S` is its address; index 0 stands for none, since no data sector has it, and
 -- adr S 0 is 0,0.
--- A slot: where it begins in the image; its 24 bytes, which are the name (0-10), the attributes (11-12), start, end and size (13-18), and what
--- ends in the date (19-23); its file's sectors in order, and of each its record number (bytes 2-3) and its data (bytes 4-255)
+-- A slot: where it begins in the image; its 24 bytes, which are the name (0-10), the attributes (11-12), start, end and size (13-18), the byte of
+-- the sector map (19, byte 23 of a block), and what ends in the date (20-23); its file's sectors in order, and of each its record number (bytes 2-3)
+-- and its data (bytes 4-255)
 pub record File : Type 0 where
   pub at : ℕ
   pub name : List ℕ
   pub mode : List ℕ
   pub ends : List ℕ
+  pub map : List ℕ
   pub date : List ℕ
   pub secs : List ℕ
   pub recs : List (List ℕ)
@@ -54,14 +56,14 @@ secsOf f = f .secs
 
 -- the 24 bytes
 unfoldable pub entryOf : File → List ℕ
-entryOf f = f .name ++ (f .mode ++ (f .ends ++ f .date))
+entryOf f = f .name ++ (f .mode ++ (f .ends ++ (f .map ++ f .date)))
 
 abbrev pub noFile : File
-noFile = record { at = 0; name = []; mode = []; ends = []; date = []; secs = []; recs = []; body = [] }
+noFile = record { at = 0; name = []; mode = []; ends = []; map = []; date = []; secs = []; recs = []; body = [] }
 
 -- a slot that was never used, of zeros
 abbrev pub unusedSlot : ℕ → File
-unusedSlot o = record { at = o; name = zeros 11; mode = zeros 2; ends = zeros 6; date = zeros 5; secs = []; recs = []; body = [] }
+unusedSlot o = record { at = o; name = zeros 11; mode = zeros 2; ends = zeros 6; map = zeros 1; date = zeros 4; secs = []; recs = []; body = [] }
 
 -- what a block does: nothing; it lists the directory, so many slots shown; it reads slot s, j sectors loaded, at index i; it writes slot s, with
 -- the bytes that its last sector has not got yet
@@ -254,7 +256,7 @@ padTo (suc n) (x ∷ l) = x ∷ padTo n l
 -- its last sector gets the bytes d
 abbrev pub withLast : File → List ℕ → File
 withLast f d =
-    record { at = f .at; name = f .name; mode = f .mode; ends = f .ends; date = f .date; secs = f .secs; recs = f .recs; body = setLast (f .body) d }
+    record { at = f .at; name = f .name; mode = f .mode; ends = f .ends; map = f .map; date = f .date; secs = f .secs; recs = f .recs; body = setLast (f .body) d }
 
 -- it gets one more sector, k, whose record number is the size, of zeros
 abbrev pub withNew : ℕ → File → ℕ → File
@@ -265,6 +267,7 @@ withNew S f k =
       name = f .name;
       mode = f .mode;
       ends = six (adr S (first (f .secs ++ k ∷ []) 0)) (adr S k) size;
+      map = f .map;
       date = f .date;
       secs = f .secs ++ k ∷ [];
       recs = f .recs ++ two size ∷ [];
@@ -274,15 +277,15 @@ withNew S f k =
 -- its slot is marked deleted
 abbrev pub withMark : File → File
 withMark f =
-    record { at = f .at; name = set (f .name) 0 255; mode = f .mode; ends = f .ends; date = f .date; secs = []; recs = []; body = [] }
+    record { at = f .at; name = set (f .name) 0 255; mode = f .mode; ends = f .ends; map = f .map; date = f .date; secs = []; recs = []; body = [] }
 
 abbrev pub withName : File → List ℕ → File
 withName f nm =
-    record { at = f .at; name = nm; mode = f .mode; ends = f .ends; date = f .date; secs = f .secs; recs = f .recs; body = f .body }
+    record { at = f .at; name = nm; mode = f .mode; ends = f .ends; map = f .map; date = f .date; secs = f .secs; recs = f .recs; body = f .body }
 
 -- a new file in the slot that begins at o: name and date, all else 0
 abbrev pub newFile : ℕ → List ℕ → List ℕ → File
-newFile o nm date = record { at = o; name = nm; mode = zeros 2; ends = zeros 6; date = zeros 2 ++ date; secs = []; recs = []; body = [] }
+newFile o nm date = record { at = o; name = nm; mode = zeros 2; ends = zeros 6; map = zeros 1; date = zeros 1 ++ date; secs = []; recs = []; body = [] }
 
 -- ---- the functions, one test a line, in the papers' order
 

@@ -5,5 +5,6 @@ pub mod Service
 pub mod History
 pub mod Demands
 pub mod Repairs
+pub mod Sequences
 pub mod Cuts
 pub mod Fakes

@@ -1,6 +1,6 @@
 -- A service: its seven entries as functions on lists. Ours, by the rules. Lists of calls, and the log that they leave.
 use mathlib.Core.List.{List, [], _∷_}
-use Prim.Native.Nat.{ℕ}
+use Prim.Native.Nat.{ℕ, _<_}
 use Rattle.rules.specs.Stores.{stored, puts}
 use Rattle.rules.specs.Outcome.{Effect, answer, given, onImage, onBlock, Out, out, Told as Reply, told as replied, saysOf, leftOf}
 use Rattle.rules.specs.Block.{blockAt, extension as extensionRule, preset as presetRule}
@@ -70,6 +70,12 @@ tabOf (out a b img tab) = tab
 pub record Machine : Type 0 where
   pub img : List ℕ
   pub tab : List ℕ
+
+-- what is preset and sent is a byte: a host can hand over nothing else
+abbrev pub SendsByte : Call → Type 0
+SendsByte (setting n i v) = v < 256
+SendsByte (extending n c) = Unit {0}
+SendsByte (asking n b) = b < 256
 
 -- what the log has of a call: the call as it was made, the answer, the byte given back
 pub record Entry : Type 0 where

@@ -1,5 +1,5 @@
 -- Blank diskettes of our service: what an accepted format leaves is a start, and its census lists all sectors in rising order, free.
-use mathlib.Core.Path.{_≡_, refl, sym, ap, _∙_}
+use mathlib.Core.Path.{_≡_, refl, ap, _∙_}
 use mathlib.Core.List.{List}
 use Prim.Native.Nat.{ℕ, _*_}
 use lib.ListN.{length}
@@ -12,8 +12,8 @@ use Rattle.laws.specs.Addresses.{Shape}
 use Rattle.laws.specs.Blank.{small-blank, Formatted, formatted as formatted-law, format-right}
 use Rattle.chains.specs.Once.{rising}
 use Rattle.chains.specs.Blank.{blank-sized, blank-census}
-use Rattle.demands.specs.Service.{Wanted, Service, flex}
-use Rattle.demands.specs.Demands.{surveyAnswer, dataSectors, FromBlank, Demand1}
+use Rattle.demands.specs.Service.{Wanted, flex}
+use Rattle.demands.specs.Demands.{surveyAnswer, dataSectors, FromBlank}
 
 abbrev blankOf : Wanted → List ℕ
 blankOf w = blank (w .last) (w .per) (w .label) (w .volume) (w .month) (w .day) (w .year)
@@ -52,12 +52,4 @@ from-blank = record {
     closed = c;
   };
   lists = λ img w xs ys h a b. listed img w h xs ys a b;
-}
-
--- and of every service that meets demand 1, where format and census are equations
-pub from-first : (σ : Service) → Demand1 σ → FromBlank σ
-from-first σ d = record {
-  accepts = λ img w z l k. rw (d .format img w) (from-blank .accepts img w z l k);
-  begins = λ img w tab h t l c. rw (d .format img w) (from-blank .begins img w tab (ap saysOf (sym (d .format img w)) ∙ h) t l c);
-  lists = λ img w xs ys h a b. rw (d .format img w, d .census) (from-blank .lists img w xs ys (ap saysOf (sym (d .format img w)) ∙ h) a b);
 }

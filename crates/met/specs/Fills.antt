@@ -91,7 +91,8 @@ module _ (M S : ℕ) (z : Shape M S) (img tab : List ℕ) (a : Ledger) (r : Agre
           name = part-same img img′ o o 11 (λ i b. at (o + i) (omega arith) (omega arith)) ∙ h .name;
           mode = part-same img img′ (o + 11) (o + 11) 2 (λ i b. at (o + 11 + i) (omega arith) (omega arith)) ∙ h .mode;
           ends = part-same img img′ (o + 13) (o + 13) 6 (λ i b. at (o + 13 + i) (omega arith) (omega arith)) ∙ h .ends;
-          date = part-same img img′ (o + 19) (o + 19) 5 (λ i b. at (o + 19 + i) (omega arith) (omega arith)) ∙ h .date;
+          map = part-same img img′ (o + 19) (o + 19) 1 (λ i b. at (o + 19 + i) (omega arith) (omega arith)) ∙ h .map;
+          date = part-same img img′ (o + 20) (o + 20) 4 (λ i b. at (o + 20 + i) (omega arith) (omega arith)) ∙ h .date;
           chain = λ q. chain-same S img img′ (f .secs) (o + 13) (λ i b. at (o + 13 + i) (omega arith) (omega arith)) (λ j i t b. off (256 * j + i) (λ u v. omega arith)) (h .chain q);
           dead = h .dead;
           recs = h .recs ∙ sym (pieces-same 2 2 img img′ (f .secs) (λ j i t u b. off (256 * j + i) (λ x y. omega arith)));

@@ -20,8 +20,8 @@ use Rattle.laws.specs.Small.{Small}
 use Rattle.laws.specs.Stores.{length-puts, puts-append}
 use Rattle.laws.specs.Effects.{lengths-kept, onTable-all, call-lawful, call-right, call-wrong, call-refused}
 use Rattle.demands.specs.Service.{flex, leaves}
-use Rattle.demands.specs.Demands.{Lent, due, names, Demand1}
-use Rattle.met.specs.Bounds.{touches, untouched, unnamed-stays, Tame, tame-settled}
+use Rattle.demands.specs.Demands.{Lent, due, names, InWords, Demand1}
+use Rattle.met.specs.Bounds.{touches, untouched, Tame, tame-settled}
 use Rattle.met.specs.Tames.{asked-tame}
 use Rattle.met.specs.Blanks.{formatted}
 use Rattle.met.specs.Mends.{repaired}
@@ -63,15 +63,15 @@ settled-error (done c ss ps) tab f h =
 error : (img tab : List ℕ) (n b : ℕ) → Lent tab n → byteAt (puts tab (320 * n) (onBlock (call img tab n b))) (320 * n + 1) ≡ answer (call img tab n b)
 error img tab n b l = rw (call-right img tab n b (l .table) (l .block)) (settled-error (asked img tab (blockAt n) b) tab (320 * n) (omega (arith, l)))
 
--- ---- the rest of table and image
+-- ---- the rest of the table; what only looks
 
 call-tame : (img tab : List ℕ) (n b : ℕ)
-    → Tame img tab (320 * n) (functionIn tab (320 * n)) (activityIn tab (320 * n)) (given (call img tab n b)) (onImage (call img tab n b)) (onBlock (call img tab n b))
+    → Tame tab (functionIn tab (320 * n)) (activityIn tab (320 * n)) (given (call img tab n b)) (onImage (call img tab n b)) (onBlock (call img tab n b))
 unfolding call
 call-tame img tab n b =
-    onTable-all (λ (e : Effect). Tame img tab (320 * n) code act (given e) (onImage e) (onBlock e)) tab n (settled (asked img tab (blockAt n) b))
-    (tame-settled img tab (320 * n) code act (asked img tab (blockAt n) b) (asked-tame img tab (320 * n) b))
-    (record { byte = λ h. refl; still = λ h. refl; image = tt; block = λ s. tt })
+    onTable-all (λ (e : Effect). Tame tab code act (given e) (onImage e) (onBlock e)) tab n (settled (asked img tab (blockAt n) b))
+    (tame-settled tab code act (asked img tab (blockAt n) b) (asked-tame img tab (320 * n) b))
+    (record { byte = λ h. refl; still = λ h. refl; block = λ s. tt })
   where
     code : ℕ
     code = functionIn tab (320 * n)
@@ -90,14 +90,8 @@ not-touched : (code act f i : ℕ) → i ≢ 1 → names code act i ≡ false �
 unfolding touches
 not-touched code act f i n h = let e : f + i - f ≡ i = omega arith in rw (e, ne-eqb i 1 n) h
 
-pub demand1 : Demand1 flex
-demand1 = record {
-  preset = λ tab n i v. refl;
-  extension = λ tab n c. refl;
-  text = λ m e. refl;
-  census = λ img xs ys. refl;
-  format = λ img w. refl;
-  repair = λ img tab. refl;
+in-words : InWords flex
+in-words = record {
   format-stated = λ img w. formatted img w .answers;
   format-refused = λ img w h. formatted img w .kept h;
   repair-stated = λ img tab. repaired img tab .answers;
@@ -112,7 +106,17 @@ demand1 = record {
   silent = λ img tab n b h. call-tame img tab n b .byte h;
   others = λ img tab n b p s h. stays img tab n b p s (λ k l. absurd (h k l));
   unnamed = λ img tab n b i s l k h. stays img tab n b (320 * n + i) s (λ u v. not-touched _ _ (320 * n) i k h);
-  looking = λ img tab n b h. (ap (stored img) (call-tame img tab n b .still h), refl);
-  elsewhere = λ img tab n b p h. unnamed-stays img tab (320 * n) (functionIn tab (320 * n)) p h (onImage (call img tab n b)) (call-tame img tab n b .image);
-  raw = λ img tab n b h. refl;
+  looking = λ img tab n b h. ap (stored img) (call-tame img tab n b .still h);
+}
+
+pub demand1 : Demand1 flex
+demand1 = record {
+  does = λ img tab n b. refl;
+  preset = λ tab n i v. refl;
+  extension = λ tab n c. refl;
+  text = λ m e. refl;
+  census = λ img xs ys. refl;
+  format = λ img w. refl;
+  repair = λ img tab. refl;
+  words = in-words;
 }

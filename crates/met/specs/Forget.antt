@@ -65,6 +65,7 @@ pub record LikeForm (M S : ℕ) (m m′ : List ℕ) : Type 0 where
 pub record Twin (f f′ : File) : Type 0 where
   pub name : f .name ≡ f′ .name
   pub mode : f .mode ≡ f′ .mode
+  pub map : f .map ≡ f′ .map
   pub date : f .date ≡ f′ .date
   pub recs : f .recs ≡ f′ .recs
   pub body : f .body ≡ f′ .body
@@ -82,7 +83,8 @@ pub record Long (f f′ : File) : Type 0 where
   pub mode : length (f .mode) ≡ 2
   pub ends : length (f .ends) ≡ 6
   pub ends′ : length (f′ .ends) ≡ 6
-  pub date : length (f .date) ≡ 5
+  pub map : length (f .map) ≡ 1
+  pub date : length (f .date) ≡ 4
 
 -- LEDGERS ALIKE: they differ only in which sectors are whose, the directory's too, in the image of the start, and in what free sectors hold
 pub record Alike (M S : ℕ) (a a′ : Ledger) : Type 0 where
@@ -230,14 +232,17 @@ module _ (M S : ℕ) where
   piece-entry f f′ l g = record {
     count = omega (
       arith,
-      length-append (f .name) (f .mode ++ (f .ends ++ f .date)),
-      length-append (f .mode) (f .ends ++ f .date),
-      length-append (f .ends) (f .date),
-      length-append (f′ .name) (f′ .mode ++ (f′ .ends ++ f′ .date)),
-      length-append (f′ .mode) (f′ .ends ++ f′ .date),
-      length-append (f′ .ends) (f′ .date),
+      length-append (f .name) (f .mode ++ (f .ends ++ (f .map ++ f .date))),
+      length-append (f .mode) (f .ends ++ (f .map ++ f .date)),
+      length-append (f .ends) (f .map ++ f .date),
+      length-append (f .map) (f .date),
+      length-append (f′ .name) (f′ .mode ++ (f′ .ends ++ (f′ .map ++ f′ .date))),
+      length-append (f′ .mode) (f′ .ends ++ (f′ .map ++ f′ .date)),
+      length-append (f′ .ends) (f′ .map ++ f′ .date),
+      length-append (f′ .map) (f′ .date),
       ap length (l .twin .name),
       ap length (l .twin .mode),
+      ap length (l .twin .map),
       ap length (l .twin .date),
     );
     bytes = at-append (λ (j : ℕ). LikeByte M S (4 + j)) (f .name) (f′ .name) _ _ (ap length (l .twin .name))
@@ -246,7 +251,9 @@ module _ (M S : ℕ) where
         (λ j b. same (ap (λ (x : List ℕ). getD x j 0) (l .twin .mode)) (λ e. absurd (omega (arith, g .name, g .mode))))
         (at-append (λ (j : ℕ). LikeByte M S (4 + (length (f .name) + (length (f .mode) + j)))) (f .ends) (f′ .ends) _ _ (g .ends ∙ sym (g .ends′))
         (λ j b. unread (ends-unread _ (omega (arith, g .name, g .mode)) (omega (arith, g .name, g .mode, g .ends))))
-        (λ j b. same (ap (λ (x : List ℕ). getD x j 0) (l .twin .date)) (λ e. absurd (omega (arith, g .name, g .mode, g .ends, g .date))))));
+        (at-append (λ (j : ℕ). LikeByte M S (4 + (length (f .name) + (length (f .mode) + (length (f .ends) + j))))) (f .map) (f′ .map) _ _ (ap length (l .twin .map))
+        (λ j b. same (ap (λ (x : List ℕ). getD x j 0) (l .twin .map)) (λ e. absurd (omega (arith, g .name, g .mode, g .ends, g .map))))
+        (λ j b. same (ap (λ (x : List ℕ). getD x j 0) (l .twin .date)) (λ e. absurd (omega (arith, g .name, g .mode, g .ends, g .map, g .date)))))));
   }
 
   -- a position that is an address
@@ -356,7 +363,7 @@ files-shown M S bs s (f ∷ fs) [] c h = absurd (omega arith)
 files-shown M S bs s (f ∷ fs) (f′ ∷ fs′) c h =
     let r = files-shown M S bs (s + 1) fs fs′ (omega arith) (λ t. h (suc t)) in
     let l = h 0 in
-    let e : asShown f (pending bs s 8) ≡ asShown f′ (pending bs s 8) = λ i. record { name = l .twin .name i; mode = l .twin .mode i; date = l .twin .date i; bytes = content (l .twin .body i) (pending bs s 8) } in
+    let e : asShown f (pending bs s 8) ≡ asShown f′ (pending bs s 8) = λ i. record { name = l .twin .name i; mode = l .twin .mode i; map = l .twin .map i; date = l .twin .date i; bytes = content (l .twin .body i) (pending bs s 8) } in
     λ i. pick (live (l .twin .name i) 0) (e i ∷ r i) (r i)
 
 shown-alike : (M S : ℕ) (a a′ : Ledger) → Alike M S a a′ → shown a ≡ shown a′
@@ -370,7 +377,7 @@ module _ (M S : ℕ) (f f′ : File) (l : LikeFile M S f f′) where
 
   like-last : (d : List ℕ) → LikeFile M S (withLast f d) (withLast f′ d)
   like-last d = record {
-    twin = record { name = t .name; mode = t .mode; date = t .date; recs = t .recs; body = λ i. setLast (t .body i) d };
+    twin = record { name = t .name; mode = t .mode; map = t .map; date = t .date; recs = t .recs; body = λ i. setLast (t .body i) d };
     size = l .size;
     secs = l .secs;
     secs′ = l .secs′;
@@ -381,6 +388,7 @@ module _ (M S : ℕ) (f f′ : File) (l : LikeFile M S f f′) where
     twin = record {
       name = t .name;
       mode = t .mode;
+      map = t .map;
       date = t .date;
       recs = λ i. t .recs i ++ two (l .size i + 1) ∷ [];
       body = λ i. t .body i ++ zeros 252 ∷ [];
@@ -392,7 +400,7 @@ module _ (M S : ℕ) (f f′ : File) (l : LikeFile M S f f′) where
 
   like-mark : LikeFile M S (withMark f) (withMark f′)
   like-mark = record {
-    twin = record { name = λ i. set (t .name i) 0 255; mode = t .mode; date = t .date; recs = refl; body = refl };
+    twin = record { name = λ i. set (t .name i) 0 255; mode = t .mode; map = t .map; date = t .date; recs = refl; body = refl };
     size = refl;
     secs = tt;
     secs′ = tt;
@@ -400,7 +408,7 @@ module _ (M S : ℕ) (f f′ : File) (l : LikeFile M S f f′) where
 
   like-name : (nm : List ℕ) → LikeFile M S (withName f nm) (withName f′ nm)
   like-name nm = record {
-    twin = record { name = refl; mode = t .mode; date = t .date; recs = t .recs; body = t .body };
+    twin = record { name = refl; mode = t .mode; map = t .map; date = t .date; recs = t .recs; body = t .body };
     size = l .size;
     secs = l .secs;
     secs′ = l .secs′;
@@ -408,7 +416,7 @@ module _ (M S : ℕ) (f f′ : File) (l : LikeFile M S f f′) where
 
 like-made : (M S o o′ : ℕ) (nm date : List ℕ) → LikeFile M S (newFile o nm date) (newFile o′ nm date)
 like-made M S o o′ nm date = record {
-  twin = record { name = refl; mode = refl; date = refl; recs = refl; body = refl };
+  twin = record { name = refl; mode = refl; map = refl; date = refl; recs = refl; body = refl };
   size = refl;
   secs = tt;
   secs′ = tt;
@@ -417,32 +425,32 @@ like-made M S o o′ nm date = record {
 -- slots that were never used, or none
 like-unused : (M S o o′ n s : ℕ) → LikeFile M S (getD (unusedSlots o n) s noFile) (getD (unusedSlots o′ n) s noFile)
 unfolding unusedSlots
-like-unused M S o o′ zero s = record { twin = record { name = refl; mode = refl; date = refl; recs = refl; body = refl }; size = refl; secs = tt; secs′ = tt }
-like-unused M S o o′ (suc n) zero = record { twin = record { name = refl; mode = refl; date = refl; recs = refl; body = refl }; size = refl; secs = tt; secs′ = tt }
+like-unused M S o o′ zero s = record { twin = record { name = refl; mode = refl; map = refl; date = refl; recs = refl; body = refl }; size = refl; secs = tt; secs′ = tt }
+like-unused M S o o′ (suc n) zero = record { twin = record { name = refl; mode = refl; map = refl; date = refl; recs = refl; body = refl }; size = refl; secs = tt; secs′ = tt }
 like-unused M S o o′ (suc n) (suc s) = like-unused M S (o + 24) (o′ + 24) n s
 
 long-unused : (o o′ n s : ℕ) → s < n → Long (getD (unusedSlots o n) s noFile) (getD (unusedSlots o′ n) s noFile)
 unfolding unusedSlots zeros
 long-unused o o′ zero s h = absurd (omega arith)
-long-unused o o′ (suc n) zero h = record { name = refl; mode = refl; ends = refl; ends′ = refl; date = refl }
+long-unused o o′ (suc n) zero h = record { name = refl; mode = refl; ends = refl; ends′ = refl; map = refl; date = refl }
 long-unused o o′ (suc n) (suc s) h = long-unused (o + 24) (o′ + 24) n s (omega arith)
 
 module _ (f f′ : File) (g : Long f f′) where
   long-last : (d : List ℕ) → Long (withLast f d) (withLast f′ d)
-  long-last d = record { name = g .name; mode = g .mode; ends = g .ends; ends′ = g .ends′; date = g .date }
+  long-last d = record { name = g .name; mode = g .mode; ends = g .ends; ends′ = g .ends′; map = g .map; date = g .date }
 
   long-new : (S k k′ : ℕ) → Long (withNew S f k) (withNew S f′ k′)
-  long-new S k k′ = record { name = g .name; mode = g .mode; ends = length-six _ _ _; ends′ = length-six _ _ _; date = g .date }
+  long-new S k k′ = record { name = g .name; mode = g .mode; ends = length-six _ _ _; ends′ = length-six _ _ _; map = g .map; date = g .date }
 
   long-mark : Long (withMark f) (withMark f′)
-  long-mark = record { name = length-set (f .name) 0 255 ∙ g .name; mode = g .mode; ends = g .ends; ends′ = g .ends′; date = g .date }
+  long-mark = record { name = length-set (f .name) 0 255 ∙ g .name; mode = g .mode; ends = g .ends; ends′ = g .ends′; map = g .map; date = g .date }
 
   long-name : (nm : List ℕ) → length nm ≡ 11 → Long (withName f nm) (withName f′ nm)
-  long-name nm h = record { name = h; mode = g .mode; ends = g .ends; ends′ = g .ends′; date = g .date }
+  long-name nm h = record { name = h; mode = g .mode; ends = g .ends; ends′ = g .ends′; map = g .map; date = g .date }
 
 long-made : (o o′ : ℕ) (nm date : List ℕ) → length nm ≡ 11 → length date ≡ 3 → Long (newFile o nm date) (newFile o′ nm date)
 unfolding zeros
-long-made o o′ nm date h k = record { name = h; mode = refl; ends = refl; ends′ = refl; date = omega arith }
+long-made o o′ nm date h k = record { name = h; mode = refl; ends = refl; ends′ = refl; map = refl; date = omega arith }
 
 -- ---- changes of ledgers
 
@@ -907,7 +915,7 @@ module _ (M S : ℕ) (z : Shape M S) where
 
   -- WHAT THEY PREDICT is the same: a log that is as the one says is as the other says
   pub told-only : (es : List Entry) → Bytes es → (a a′ : Ledger) → Alike M S a a′
-      → (Told M S (scenes M S a es) → Told M S (scenes M S a′ es)) × (Told M S (scenes M S a′ es) → Told M S (scenes M S a es))
+      → (Told (scenes M S a es) → Told (scenes M S a′ es)) × (Told (scenes M S a′ es) → Told (scenes M S a es))
   unfolding scenes
   told-only [] h a a′ r = ((λ t. t), (λ t. t))
   told-only (e ∷ es) h a a′ r =
@@ -918,8 +926,8 @@ module _ (M S : ℕ) (z : Shape M S) where
       )
 
   -- and so two logs of the same calls, each as predicted, are the same: every answer, every byte
-  pub log-only : (σ : Service) (cs : List Call) → Each Byte cs → (x x′ : Machine) (a a′ : Ledger) → Alike M S a a′ → Told M S (scenes M S a (log σ x cs))
-      → Told M S (scenes M S a′ (log σ x′ cs)) → log σ x cs ≡ log σ x′ cs
+  pub log-only : (σ : Service) (cs : List Call) → Each Byte cs → (x x′ : Machine) (a a′ : Ledger) → Alike M S a a′ → Told (scenes M S a (log σ x cs))
+      → Told (scenes M S a′ (log σ x′ cs)) → log σ x cs ≡ log σ x′ cs
   unfolding log scenes entry
   log-only σ [] h x x′ a a′ r t t′ = refl
   log-only σ (c ∷ cs) h x x′ a a′ r t t′ =
@@ -928,7 +936,7 @@ module _ (M S : ℕ) (z : Shape M S) where
       let q : gave σ x c ≡ gave σ x′ c = t .1 ∙ like-gives M S l ∙ sym (t′ .1) in
       let e : entry σ x c ≡ entry σ x′ c = λ i. record { made = c; ans = p i; back = q i } in
       let u = log-only σ cs (h .1) (after-call σ x c) (after-call σ x′ c) (then M S a (entry σ x c)) (then M S a′ (entry σ x c)) (then-alike M S z a a′ r (entry σ x c) (h .0)) (t .2)
-      (subst (λ (y : Entry). Told M S (scenes M S (then M S a′ y) (log σ (after-call σ x′ c) cs))) (sym e) (t′ .2)) in
+      (subst (λ (y : Entry). Told (scenes M S (then M S a′ y) (log σ (after-call σ x′ c) cs))) (sym e) (t′ .2)) in
       λ i. e i ∷ u i
 
 -- ---- two diskettes with the same files, however their sectors lie
@@ -951,7 +959,8 @@ sited M S z img tab a r = record {
         mode = ap length (sym (g .mode)) ∙ length-part _ _ 2;
         ends = ap length (sym (g .ends)) ∙ length-part _ _ 6;
         ends′ = ap length (sym (g .ends)) ∙ length-part _ _ 6;
-        date = ap length (sym (g .date)) ∙ length-part _ _ 5;
+        map = ap length (sym (g .map)) ∙ length-part _ _ 1;
+        date = ap length (sym (g .date)) ∙ length-part _ _ 4;
       };
   size = λ s h. ap length (r .holds s (omega (arith, r .ns)) .body) ∙ length-pieces 4 252 img ((file a s) .secs);
 }
@@ -984,7 +993,7 @@ sited-alike M S a a′ g g′ fr c t b e sm = record {
   frees′ = g′ .frees;
   count = c;
   files = λ s. by-slot (LikeFile M S) (a .slots) (a′ .slots) c s
-      (record { twin = record { name = refl; mode = refl; date = refl; recs = refl; body = refl }; size = refl; secs = tt; secs′ = tt })
+      (record { twin = record { name = refl; mode = refl; map = refl; date = refl; recs = refl; body = refl }; size = refl; secs = tt; secs′ = tt })
       (λ h. record {
         twin = t s h;
         size = sym (g .size s h) ∙ ap length (t s h .body) ∙ g′ .size s (omega arith);
@@ -993,7 +1002,7 @@ sited-alike M S a a′ g g′ fr c t b e sm = record {
       });
   long = λ s h.
       let l = g .long s h in
-      record { name = l .name; mode = l .mode; ends = l .ends; ends′ = g′ .long s (omega arith) .ends; date = l .date };
+      record { name = l .name; mode = l .mode; ends = l .ends; ends′ = g′ .long s (omega arith) .ends; map = l .map; date = l .date };
   blocks = b;
   number = ap length e;
   fcbs = λ n. subst (λ (m : List ℕ). LikeForm M S (fcb a n) m) (ap (λ (l : List (List ℕ)). getD l n []) e) (form-self M S (fcb a n) (sm n));
@@ -1020,8 +1029,8 @@ module _ (x x′ : Machine) (s : Start x) (s′ : Start x′) (t : Twins x x′)
     pub twins-log : log σ x cs ≡ log σ x′ cs
     twins-log =
         log-only M S (start-shape x s) σ cs h x x′ (begun x) (begun x′) starts-alike (d x s cs p .answered)
-        (subst (λ (m : ℕ). Told m S (scenes m S (begun x′) (log σ x′ cs))) (sym (t .tracks))
-        (subst (λ (p : ℕ). Told (lastTrackOf x′) p (scenes (lastTrackOf x′) p (begun x′) (log σ x′ cs))) (sym (t .sectors)) (d x′ s′ cs p′ .answered)))
+        (subst (λ (m : ℕ). Told (scenes m S (begun x′) (log σ x′ cs))) (sym (t .tracks))
+        (subst (λ (p : ℕ). Told (scenes (lastTrackOf x′) p (begun x′) (log σ x′ cs))) (sym (t .sectors)) (d x′ s′ cs p′ .answered)))
 
     pub twins-files : filesOn M S (run σ x cs .img) (run σ x cs .tab) ≡ filesOn (lastTrackOf x′) (perTrackOf x′) (run σ x′ cs .img) (run σ x′ cs .tab)
     twins-files =

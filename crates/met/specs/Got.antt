@@ -136,9 +136,9 @@ module _ (M S : ℕ) (z : Shape M S) where
   module _ (x : Machine) (a : Ledger) (g : Fine M S x a) (n s p : ℕ) (l : List ℕ) (hn : n < 8) (t : At a n s p l) where
     -- what the call leaves, and what it is answered, where it is one of block n
     abbrev Now : Call → Type 0
-    Now c = At (then M S a (entry flex x c)) n s (readTo n p l (sceneOf x a c)) l
-        × (calls n 0 (sceneOf x a c) ≡ true → (answers flex x c ≡ pick (ltb p (length l)) 0 8) × (gave flex x c ≡ getD l p 0))
-        × (calls n 5 (sceneOf x a c) ≡ true → answers flex x c ≡ 0)
+    Now c = At (then M S a (entry flex x c)) n s (readTo n p l (sceneOf M S x a c)) l
+        × (calls n 0 (sceneOf M S x a c) ≡ true → (answers flex x c ≡ pick (ltb p (length l)) 0 8) × (gave flex x c ≡ getD l p 0))
+        × (calls n 5 (sceneOf M S x a c) ≡ true → answers flex x c ≡ 0)
 
     kept-by : (a′ : Ledger) → Untouched a a′ n s → At a′ n s p l
     kept-by a′ u =
@@ -206,7 +206,7 @@ module _ (M S : ℕ) (z : Shape M S) where
           λ r. absurd-bool r refl,
         )
 
-    read-one : (c : Call) → Only n (0 ∷ 5 ∷ []) (sceneOf x a c ∷ []) → Now c
+    read-one : (c : Call) → Only n (0 ∷ 5 ∷ []) (sceneOf M S x a c ∷ []) → Now c
     unfolding entry
     read-one (setting m i v) op =
         (kept-by (then M S a (entry flex x (setting m i v))) (untouched a (then M S a (entry flex x (setting m i v))) n s (likewise-set M S a m i v _ _)), (λ q. absurd-bool q refl), λ q. absurd-bool q refl)
@@ -214,7 +214,7 @@ module _ (M S : ℕ) (z : Shape M S) where
         (kept-by (then M S a (entry flex x (extending m c))) (untouched a (then M S a (entry flex x (extending m c))) n s (likewise-extend M S a m c _ _)), (λ q. absurd-bool q refl), λ q. absurd-bool q refl)
     read-one (asking m b) op = go (ℕ-discrete m n)
       where
-        own : Only n (0 ∷ 5 ∷ []) (sceneOf x a (asking n b) ∷ []) → Dec (asks a n b .code ≡ 0) → Dec (asks a n b .code ≡ 5) → Dec (answers flex x (asking n b) ≡ 0)
+        own : Only n (0 ∷ 5 ∷ []) (sceneOf M S x a (asking n b) ∷ []) → Dec (asks a n b .code ≡ 0) → Dec (asks a n b .code ≡ 5) → Dec (answers flex x (asking n b) ≡ 0)
             → Now (asking n b)
         own op (yes c) e q = own-byte b c
         own op (no c) (yes e) q = own-rewind b e
@@ -223,7 +223,7 @@ module _ (M S : ℕ) (z : Shape M S) where
 
         go : Dec (m ≡ n) → Now (asking m b)
         go (yes e) =
-            subst (λ (k : ℕ). Only n (0 ∷ 5 ∷ []) (sceneOf x a (asking k b) ∷ []) → Now (asking k b)) (sym e)
+            subst (λ (k : ℕ). Only n (0 ∷ 5 ∷ []) (sceneOf M S x a (asking k b) ∷ []) → Now (asking k b)) (sym e)
             (λ op. own op (ℕ-discrete (asks a n b .code) 0) (ℕ-discrete (asks a n b .code) 5) (ℕ-discrete (answers flex x (asking n b)) 0)) op
         go (no e) = other m b e
 
@@ -234,4 +234,4 @@ module _ (M S : ℕ) (z : Shape M S) where
   reads [] x a g n s p l hn t pl op = tt
   reads (c ∷ cs) x a g n s p l hn t pl op =
       let w = read-one x a g n s p l hn t c (op .0, tt) in
-      (w .1, w .2, reads cs (next flex x c) (then M S a (entry flex x c)) (step M S z x a g c .fine (pl .0)) n s (readTo n p l (sceneOf x a c)) l hn (w .0) (pl .1) (op .1))
+      (w .1, w .2, reads cs (next flex x c) (then M S a (entry flex x c)) (step M S z x a g c .fine (pl .0)) n s (readTo n p l (sceneOf M S x a c)) l hn (w .0) (pl .1) (op .1))

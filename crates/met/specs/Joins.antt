@@ -3,7 +3,7 @@ use mathlib.Core.Path.{_≡_, refl, sym, ap, _∙_, subst}
 use mathlib.Core.Bool.{false}
 use mathlib.Core.List.{List, [], _∷_, _++_}
 use Prim.Native.Nat.{ℕ}
-use Rattle.demands.specs.Ledger.{Call, Ledger}
+use Rattle.demands.specs.Ledger.{Call, Ledger, fate}
 use Rattle.demands.specs.Service.{Service, Machine, Entry, answers, gave, next, entry, run, log}
 use Rattle.demands.specs.History.{Scene, then, history, scenes, raw, Plain}
 use Rattle.demands.specs.Demands.{Demand2, Demand3, SpeakAgain}
@@ -50,7 +50,7 @@ module _ (M S : ℕ) where
 
     -- as the history sees it
     abbrev pub lastScene : Scene
-    lastScene = record { before = history M S a (log σ x cs); made = c; ans = answers σ (run σ x cs) c; back = gave σ (run σ x cs) c }
+    lastScene = record { before = history M S a (log σ x cs); made = c; due = fate M S (history M S a (log σ x cs)) c; ans = answers σ (run σ x cs) c; back = gave σ (run σ x cs) c }
 
     pub plain-less : Plain (scenes M S a (log σ x cs)) → raw lastScene ≡ false → Plain (scenes M S a (log σ x (cs ++ c ∷ [])))
     unfolding log scenes entry

@@ -4,6 +4,7 @@ pub mod Tames
 pub mod Blanks
 pub mod Mends
 pub mod First
+pub mod Ours
 -- image and table agree with a ledger, and are then what it says
 pub mod Relation
 pub mod Quiet
@@ -38,5 +39,7 @@ pub mod Stays
 -- demands 2 and 3
 pub mod Second
 pub mod Third
+-- any sequence of calls, formats and repairs
+pub mod Sequences
 -- what is shown and predicted knows no sectors
 pub mod Forget

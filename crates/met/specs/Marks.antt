@@ -84,7 +84,8 @@ module _ (M S : ℕ) (z : Shape M S) (img tab : List ℕ) (a : Ledger) (r : Agre
         name = part-is img′ o 11 (set (f .name) 0 255) (length-set (f .name) 0 255 ∙ length-name) at;
         mode = part-same img img′ (o + 11) (o + 11) 2 (λ i c. further (11 + i) (omega arith) (omega arith) (omega arith)) ∙ r .holds s hs .mode;
         ends = part-same img img′ (o + 13) (o + 13) 6 (λ i c. further (13 + i) (omega arith) (omega arith) (omega arith)) ∙ r .holds s hs .ends;
-        date = part-same img img′ (o + 19) (o + 19) 5 (λ i c. further (19 + i) (omega arith) (omega arith) (omega arith)) ∙ r .holds s hs .date;
+        map = part-same img img′ (o + 19) (o + 19) 1 (λ i c. further (19 + i) (omega arith) (omega arith) (omega arith)) ∙ r .holds s hs .map;
+        date = part-same img img′ (o + 20) (o + 20) 4 (λ i c. further (20 + i) (omega arith) (omega arith) (omega arith)) ∙ r .holds s hs .date;
         chain = λ v. absurd-bool v (marked-dead (f .name) (omega (arith, length-name)));
         dead = λ v. refl;
         recs = refl;

@@ -15,7 +15,7 @@ use Rattle.rules.specs.Image.{lastTrack, perTrack, index, isData, linkOf}
 use Rattle.rules.specs.Directory.{live, member, directory, slots, slotsOf, startAt, sizeAt}
 use Rattle.rules.specs.Outcome.{Told, told, saysOf, leftOf}
 use Rattle.rules.specs.Block.{blockAt, activityIn}
-use Rattle.rules.specs.Census.{census, fileRight}
+use Rattle.rules.specs.Census.{fileRight}
 use Rattle.rules.specs.Repair.{allClosed, allOf, others, keptIn, freeIn, repairStores, mended as mendedRule, repair, keptFrom, keptBy}
 use Rattle.laws.specs.Tests.{never, both, neither, within-true, pick-all, either}
 use Rattle.laws.specs.Bytes.{length-zeros, part-same}
@@ -32,8 +32,8 @@ use Rattle.mending.specs.Spared.{Spared, spared, spared-sound, Cut, cut}
 use Rattle.mending.specs.Repairs.{AllClosed, Answered, repair-is, repair-done, repair-whole, repair-made, repair-accepted, repair-other, repair-again}
 use Rattle.mending.specs.Halfway.{behind-last}
 use Rattle.mending.specs.Resumed.{repair-resumed, repair-copied}
-use Rattle.demands.specs.Service.{Service, flex, Machine}
-use Rattle.demands.specs.Demands.{lastTrackOf, perTrackOf, dataSectors, surveyAnswer, sectorsIn, placeIn, chainOf, AsItWas, Begins, Closed, Start, Demand1}
+use Rattle.demands.specs.Service.{flex, Machine}
+use Rattle.demands.specs.Demands.{lastTrackOf, perTrackOf, dataSectors, surveyAnswer, sectorsIn, placeIn, chainOf, AsItWas, Begins, Closed, Start}
 use Rattle.demands.specs.Repairs.{repairs, mended, LiveFile, RightlyChained, Has, SharesNothing, TakenByNone, inRecord, mends, brokenOff, nextOf, KeptUpTo, freeOf, filesOf, Rises, Repaired, FromRepair, reachOf}
 use Rattle.met.specs.Runs.{start-sane}
 
@@ -345,36 +345,3 @@ from-repair = record {
   accepts = λ x l c s d t. rw (eq-eqb (length (x .tab)) 2560 l, closed-all (x .tab) c 8 (omega arith), s, d, t) refl;
   repaired = mended-well;
 }
-
--- and of every service that meets demand 1, where repair is an equation: σ with the repair f
-abbrev with : Service → (List ℕ → List ℕ → Told) → Service
-with σ f =
-    record { preset = σ .preset; extension = σ .extension; call = σ .call; census = σ .census; text = σ .text; format = σ .format; repair = f }
-
-kept-with : (σ : Service) (x : Machine) (s k : ℕ) (A : Type 0) → A ⊎ KeptUpTo flex x s k → A ⊎ KeptUpTo (with σ (flex .repair)) x s k
-kept-with σ x s k A (inl a) = inl a
-kept-with σ x s k A (inr w) = inr (record { slot = w .slot; upto = w .upto; file = w .file; has = w .has })
-
-ours-with : (σ : Service) → FromRepair (with σ (flex .repair))
-ours-with σ = record {
-  accepts = from-repair .accepts;
-  repaired = λ x small e.
-      let r = mended-well x small e in
-      record {
-        begins = r .begins;
-        spares = r .spares;
-        spares-first = r .spares-first;
-        spares-all = r .spares-all;
-        cuts = r .cuts;
-        longest = λ s f c d. kept-with σ x s _ _ (r .longest s f c d);
-        frees = r .frees;
-        rising = r .rising;
-        touches = r .touches;
-        again = r .again;
-        resumes = r .resumes;
-        recopies = r .recopies;
-      };
-}
-
-pub repair-from-first : (σ : Service) → Demand1 σ → FromRepair σ
-repair-from-first σ d = subst (λ (f : List ℕ → List ℕ → Told). FromRepair (with σ f)) (λ i img tab. sym (d .repair img tab) i) (ours-with σ)

@@ -202,11 +202,10 @@ module _ (M S : ℕ) (z : Shape M S) (img tab : List ℕ) (a : Ledger) (r : Agre
   zero-word i b =
       word-put ne (11 + i) 0 (omega arith) (entry-zero i (omega arith)) (ap (λ (x : ℕ). getD ne x 0) (omega arith) ∙ entry-zero (i + 1) (omega arith))
 
-  late-date : (i : ℕ) → i < 5 → getD ne (19 + i) 0 ≡ getD (zeros 2 ++ date) i 0
+  late-date : (i : ℕ) → i < 4 → getD ne (20 + i) 0 ≡ getD (zeros 1 ++ date) i 0
   unfolding zeros
-  late-date zero b = entry-zero 8 (omega arith)
-  late-date (suc zero) b = entry-zero 9 (omega arith)
-  late-date (suc (suc i)) b = ap (λ (x : ℕ). getD ne x 0) (omega arith) ∙ entry-date i
+  late-date zero b = entry-zero 9 (omega arith)
+  late-date (suc i) b = ap (λ (x : ℕ). getD ne x 0) (omega arith) ∙ entry-date i
 
   -- an image with the new entry in the slot at p
   module _ (alive : live nm 0 ≡ true) (img′ : List ℕ) (p : ℕ) (in-entry : (i x : ℕ) → i < 24 → p + i ≡ x → getD img′ x 0 ≡ getD ne i 0) where
@@ -222,7 +221,8 @@ module _ (M S : ℕ) (z : Shape M S) (img tab : List ℕ) (a : Ledger) (r : Agre
           name = part-is img′ p 11 nm ln (λ i b. in-entry i (p + i) (omega arith) refl ∙ entry-name i b);
           mode = part-is img′ (p + 11) 2 (zeros 2) (length-zeros 2) (λ i b. in-entry (11 + i) (p + 11 + i) (omega arith) (omega arith) ∙ entry-zero i (omega arith) ∙ sym (zeros-at 2 i));
           ends = part-is img′ (p + 13) 6 (zeros 6) (length-zeros 6) (λ i b. in-entry (11 + (2 + i)) (p + 13 + i) (omega arith) (omega arith) ∙ entry-zero (2 + i) (omega arith) ∙ sym (zeros-at 6 i));
-          date = part-is img′ (p + 19) 5 (zeros 2 ++ date) (length-append (zeros 2) date ∙ omega (arith, length-zeros 2, length-part tab (320 * n + 25) 3)) (λ i b. in-entry (19 + i) (p + 19 + i) (omega arith) (omega arith) ∙ late-date i b);
+          map = part-is img′ (p + 19) 1 (zeros 1) (length-zeros 1) (λ i b. in-entry (11 + (8 + i)) (p + 19 + i) (omega arith) (omega arith) ∙ entry-zero (8 + i) (omega arith) ∙ sym (zeros-at 1 i));
+          date = part-is img′ (p + 20) 4 (zeros 1 ++ date) (length-append (zeros 1) date ∙ omega (arith, length-zeros 1, length-part tab (320 * n + 25) 3)) (λ i b. in-entry (20 + i) (p + 20 + i) (omega arith) (omega arith) ∙ late-date i b);
           chain = λ v. record { start = zero-in 2 _ (omega arith) (omega arith) ∙ sym (adr-zero S); end = zero-in 4 _ (omega arith) (omega arith) ∙ sym (adr-zero S); size = zero-in 6 _ (omega arith) (omega arith); seg = tt };
           dead = λ v. absurd-bool alive v;
           recs = refl;

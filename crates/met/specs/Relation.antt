@@ -53,7 +53,8 @@ pub record Holds (S : ℕ) (m : List ℕ) (o : ℕ) (f : File) : Type 0 where
   pub name : part m o 11 ≡ f .name
   pub mode : part m (o + 11) 2 ≡ f .mode
   pub ends : part m (o + 13) 6 ≡ f .ends
-  pub date : part m (o + 19) 5 ≡ f .date
+  pub map : part m (o + 19) 1 ≡ f .map
+  pub date : part m (o + 20) 4 ≡ f .date
   pub chain : live (f .name) 0 ≡ true → Chain S m (o + 13) (f .secs)
   pub dead : live (f .name) 0 ≡ false → f .secs ≡ []
   pub recs : f .recs ≡ pieces 2 2 m (f .secs)
@@ -241,7 +242,8 @@ holds-same S m m′ o f k g h =
       name = part-same m m′ o o 11 (λ i c. k i (omega arith)) ∙ h .name;
       mode = part-same m m′ (o + 11) (o + 11) 2 (λ i c. at (11 + i) (omega arith) (omega arith)) ∙ h .mode;
       ends = part-same m m′ (o + 13) (o + 13) 6 (λ i c. at (13 + i) (omega arith) (omega arith)) ∙ h .ends;
-      date = part-same m m′ (o + 19) (o + 19) 5 (λ i c. at (19 + i) (omega arith) (omega arith)) ∙ h .date;
+      map = part-same m m′ (o + 19) (o + 19) 1 (λ i c. at (19 + i) (omega arith) (omega arith)) ∙ h .map;
+      date = part-same m m′ (o + 20) (o + 20) 4 (λ i c. at (20 + i) (omega arith) (omega arith)) ∙ h .date;
       chain = λ v. chain-same S m m′ (f .secs) (o + 13) (λ i c. at (13 + i) (omega arith) (omega arith)) (λ j i t c. g j i t (omega arith)) (h .chain v);
       dead = h .dead;
       recs = h .recs ∙ sym (pieces-same 2 2 m m′ (f .secs) (λ j i t u v. g j i t (omega arith)));

@@ -223,9 +223,9 @@ module _ (M S : ℕ) (z : Shape M S) (img tab : List ℕ) (a : Ledger) (r : Agre
     gone-puts : ps ≡ put 4 (entryOf (withMark f)) ∷ []
     unfolding one part entryOf
     gone-puts =
-        let e : part img o 24 ≡ f .name ++ (f .mode ++ (f .ends ++ f .date)) = entry-is M S z img tab a r s hs in
+        let e : part img o 24 ≡ f .name ++ (f .mode ++ (f .ends ++ (f .map ++ f .date))) = entry-is M S z img tab a r s hs in
         ap (λ (x : List ℕ). put 4 x ∷ [])
-        (ap (λ (x : List ℕ). 255 ∷ drop 1 x) e ∙ sym (set-first (f .name) (f .mode ++ (f .ends ++ f .date)) 255 (omega (arith, length-name M S z img tab a r s hs))))
+        (ap (λ (x : List ℕ). 255 ∷ drop 1 x) e ∙ sym (set-first (f .name) (f .mode ++ (f .ends ++ (f .map ++ f .date))) 255 (omega (arith, length-name M S z img tab a r s hs))))
 
     gone-turn : Turn tab tab′ n
     gone-turn = turned tab n ps gone-within
@@ -309,7 +309,8 @@ module _ (M S : ℕ) (z : Shape M S) (img tab : List ℕ) (a : Ledger) (r : Agre
             name = part-is img″ o 11 nn ln (λ i b. slot-at M S z img tab a r s hs 0 nn short i (o + i) (omega (arith, ln)) (omega arith));
             mode = part-same img img″ (o + 11) (o + 11) 2 (λ i b. off (o + 11 + i) (λ u v. omega arith)) ∙ h .mode;
             ends = part-same img img″ (o + 13) (o + 13) 6 (λ i b. off (o + 13 + i) (λ u v. omega arith)) ∙ h .ends;
-            date = part-same img img″ (o + 19) (o + 19) 5 (λ i b. off (o + 19 + i) (λ u v. omega arith)) ∙ h .date;
+            map = part-same img img″ (o + 19) (o + 19) 1 (λ i b. off (o + 19 + i) (λ u v. omega arith)) ∙ h .map;
+            date = part-same img img″ (o + 20) (o + 20) 4 (λ i b. off (o + 20 + i) (λ u v. omega arith)) ∙ h .date;
             chain = λ v. chain-same S img img″ l (o + 13) (λ i b. off (o + 13 + i) (λ u v. omega arith))
                 (λ j i t b. off (256 * j + i) (λ u v. omega (arith, oapart j (secs-off M S z img tab a r s hs j t), orow))) c;
             dead = λ v. absurd-bool newlive v;

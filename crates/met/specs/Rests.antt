@@ -22,7 +22,7 @@ use Rattle.met.specs.Opens.{legal-live}
 use Rattle.met.specs.Tidy.{nameOf, Tidy, found-there, found-name}
 use Rattle.met.specs.Changes.{Change, Changes, changes, length-grows, rename-legal, Slot, kept, own, fresh, lost, moved, slot-fate, writes-before}
 use Rattle.demands.specs.Service.{flex, Machine, answers, next, entry, log}
-use Rattle.demands.specs.History.{Scene, then, history, scenes, onCall, Plain, hits, nameAfter, nameThen, Survives, Unnamed}
+use Rattle.demands.specs.History.{Scene, then, history, scenes, onCall, Plain, hits, nameAfter, nameThen, ending, changing, Survives, Unnamed}
 use Rattle.met.specs.Runs.{sceneOf, Fine, Likewise, asked, beyond, likewise-set, likewise-extend, likewise-refused, likewise-asked, step}
 
 -- slot s has the file f, which is live, and no block writes it
@@ -114,16 +114,16 @@ neither false = refl
 module _ (M S : ℕ) (z : Shape M S) where
   module _ (x : Machine) (a : Ledger) (g : Fine M S x a) (s : ℕ) (f : File) (r : Rests a s f) where
     -- what was not accepted, or does not ask, leaves it
-    left : (c : Call) → Likewise a (then M S a (entry flex x c)) → hits 13 (f .name) (sceneOf x a c) ≡ false
-        → Rests (then M S a (entry flex x c)) s (titled f (hits 13 (f .name) (sceneOf x a c)) (newName (f .name) (sceneOf x a c)))
+    left : (c : Call) → Likewise a (then M S a (entry flex x c)) → hits 13 (f .name) (sceneOf M S x a c) ≡ false
+        → Rests (then M S a (entry flex x c)) s (titled f (hits 13 (f .name) (sceneOf M S x a c)) (newName (f .name) (sceneOf M S x a c)))
     left c l h = rw h (rests-like a (then M S a (entry flex x c)) l s f r)
 
-    accepted : (n b : ℕ) → n < 8 → answers flex x (asking n b) ≡ 0 → hits 12 (f .name) (sceneOf x a (asking n b)) ≡ false
-        → Rests (then M S a (entry flex x (asking n b))) s (titled f (hits 13 (f .name) (sceneOf x a (asking n b))) (asks a n b .rename))
+    accepted : (n b : ℕ) → n < 8 → answers flex x (asking n b) ≡ 0 → hits 12 (f .name) (sceneOf M S x a (asking n b)) ≡ false
+        → Rests (then M S a (entry flex x (asking n b))) s (titled f (hits 13 (f .name) (sceneOf M S x a (asking n b))) (asks a n b .rename))
     accepted n b h q k =
         let st = asked M S z x a g n b h in
         rests-like (ledgerBy a (called M S a n (asks a n b))) (then M S a (entry flex x (asking n b))) (likewise-asked M S x a n b st) s
-        (titled f (hits 13 (f .name) (sceneOf x a (asking n b))) (asks a n b .rename))
+        (titled f (hits 13 (f .name) (sceneOf M S x a (asking n b))) (asks a n b .rename))
         (rw (eq-eqb (answers flex x (asking n b)) 0 q)
         (by (called M S a n (asks a n b)) (changes M S a n (asks a n b)) (st .sure) (st .ans) (rw (eq-eqb (answers flex x (asking n b)) 0 q) at k)))
       where
@@ -136,15 +136,15 @@ module _ (M S : ℕ) (z : Shape M S) where
             (λ p v. absurd-bool (ap (λ (y : List ℕ). same y (f .name)) v ∙ same-refl (f .name)) (rw (eq-eqb (asks a n b .code) 12 p) at k))
 
     -- what a call says of the file
-    rest-one : (c : Call) → hits 12 (f .name) (sceneOf x a c) ≡ false
-        → Rests (then M S a (entry flex x c)) s (titled f (hits 13 (f .name) (sceneOf x a c)) (newName (f .name) (sceneOf x a c)))
+    rest-one : (c : Call) → hits 12 (f .name) (sceneOf M S x a c) ≡ false
+        → Rests (then M S a (entry flex x c)) s (titled f (hits 13 (f .name) (sceneOf M S x a c)) (newName (f .name) (sceneOf M S x a c)))
     unfolding entry
     rest-one (setting n i v) k = left (setting n i v) (likewise-set M S a n i v _ _) (neither (eqb (answers flex x (setting n i v)) 0))
     rest-one (extending n c) k = left (extending n c) (likewise-extend M S a n c _ _) (neither (eqb (answers flex x (extending n c)) 0))
     rest-one (asking n b) k = go (ℕ-discrete (answers flex x (asking n b)) 0) (decLt n 8)
       where
         go : Dec (answers flex x (asking n b) ≡ 0) → Dec (n < 8)
-            → Rests (then M S a (entry flex x (asking n b))) s (titled f (hits 13 (f .name) (sceneOf x a (asking n b))) (asks a n b .rename))
+            → Rests (then M S a (entry flex x (asking n b))) s (titled f (hits 13 (f .name) (sceneOf M S x a (asking n b))) (asks a n b .rename))
         go (no q) h = left (asking n b) (likewise-refused M S a n b _ _ q) (rw (ne-eqb (answers flex x (asking n b)) 0 q) refl)
         go (yes q) (no h) = absurd (omega (arith, q, beyond M S z x a g n b (omega arith)))
         go (yes q) (yes h) = accepted n b h q k
@@ -159,33 +159,33 @@ module _ (M S : ℕ) (z : Shape M S) where
 
   -- it stays through every list of calls that does not delete it, and has then its name of then
   pub rests : (cs : List Call) (x : Machine) (a : Ledger) → Fine M S x a → (s : ℕ) (f : File) → Rests a s f
-      → Plain (scenes M S a (log flex x cs)) → Survives (f .name) (scenes M S a (log flex x cs))
+      → Plain (scenes M S a (log flex x cs)) → Survives ending (f .name) (scenes M S a (log flex x cs))
       → Rests (history M S a (log flex x cs)) s (withName f (nameThen (f .name) (scenes M S a (log flex x cs))))
   unfolding log history scenes entry nameThen
   rests [] x a g s f r p v = r
   rests (c ∷ cs) x a g s f r p v =
-      let sc = sceneOf x a c in
+      let sc = sceneOf M S x a c in
       let u = hits 13 (f .name) sc in
       let nn = newName (f .name) sc in
       let a′ = then M S a (entry flex x c) in
       let ss = scenes M S a′ (log flex (next flex x c) cs) in
       let q = titled-name f u nn in
-      let y = rests cs (next flex x c) a′ (step M S z x a g c .fine (p .0)) s (titled f u nn) (rest-one x a g s f r c (v .0)) (p .1)
-      (subst (λ (k : List ℕ). Survives k ss) (sym q) (v .1)) in
+      let y = rests cs (next flex x c) a′ (step M S z x a g c .fine (p .0)) s (titled f u nn) (rest-one x a g s f r c (v .0 .0)) (p .1)
+      (subst (λ (k : List ℕ). Survives ending k ss) (sym q) (v .1)) in
       subst (λ (k : File). Rests (history M S a′ (log flex (next flex x c) cs)) s k)
       (ap (λ (k : List ℕ). withName (titled f u nn) (nameThen k ss)) q ∙ titled-with f u nn (nameThen (pick u nn (f .name)) ss)) y
 
   -- a file that is neither deleted nor renamed stays what it is
-  unnamed-survives : (nm : List ℕ) (ss : List Scene) → Unnamed nm ss → Survives nm ss × (nameThen nm ss ≡ nm)
+  unnamed-survives : (nm : List ℕ) (ss : List Scene) → Unnamed changing nm ss → Survives ending nm ss × (nameThen nm ss ≡ nm)
   unfolding nameThen
   unnamed-survives nm [] v = (tt, refl)
   unnamed-survives nm (c ∷ ss) v =
-      let q : nameAfter nm c ≡ nm = ap (λ (u : Bool). pick u (newName nm c) nm) (v .1) in
-      let y = unnamed-survives nm ss (v .2) in
-      ((v .0, subst (λ (k : List ℕ). Survives k ss) (sym q) (y .0)), ap (λ (k : List ℕ). nameThen k ss) q ∙ y .1)
+      let q : nameAfter nm c ≡ nm = ap (λ (u : Bool). pick u (newName nm c) nm) (v .0 .0) in
+      let y = unnamed-survives nm ss (v .1) in
+      ((v .0 .1, subst (λ (k : List ℕ). Survives ending k ss) (sym q) (y .0)), ap (λ (k : List ℕ). nameThen k ss) q ∙ y .1)
 
   pub rests-same : (cs : List Call) (x : Machine) (a : Ledger) → Fine M S x a → (s : ℕ) (f : File) → Rests a s f
-      → Plain (scenes M S a (log flex x cs)) → Unnamed (f .name) (scenes M S a (log flex x cs))
+      → Plain (scenes M S a (log flex x cs)) → Unnamed changing (f .name) (scenes M S a (log flex x cs))
       → Rests (history M S a (log flex x cs)) s f
   rests-same cs x a g s f r p v =
       let y = unnamed-survives (f .name) (scenes M S a (log flex x cs)) v in

@@ -90,16 +90,16 @@ reform M S img tab a n ps r = record {
 }
 
 -- a call of ours as the history sees it
-abbrev pub sceneOf : Machine → Ledger → Call → Scene
-sceneOf x a c = record { before = a; made = c; ans = answers flex x c; back = gave flex x c }
+abbrev pub sceneOf : ℕ → ℕ → Machine → Ledger → Call → Scene
+sceneOf M S x a c = record { before = a; made = c; due = fate M S a c; ans = answers flex x c; back = gave flex x c }
 
 -- it is none of the raw writes, by its code
-pub plain-code : (x : Machine) (a : Ledger) (n b k : ℕ) → asks a n b .code ≡ k → writesRaw k ≡ false → raw (sceneOf x a (asking n b)) ≡ false
-plain-code x a n b k e h = rw (e, h) refl
+pub plain-code : (M S : ℕ) (x : Machine) (a : Ledger) (n b k : ℕ) → asks a n b .code ≡ k → writesRaw k ≡ false → raw (sceneOf M S x a (asking n b)) ≡ false
+plain-code M S x a n b k e h = rw (e, h) refl
 
 -- a call of ours in the ledger; what an accepted raw write leaves agrees with none
 pub record Step (M S : ℕ) (x : Machine) (a : Ledger) (c : Call) : Type 0 where
-  pub fine : raw (sceneOf x a c) ≡ false → Fine M S (next flex x c) (then M S a (entry flex x c))
+  pub fine : raw (sceneOf M S x a c) ≡ false → Fine M S (next flex x c) (then M S a (entry flex x c))
   pub ans : answers flex x c ≡ reply (fate M S a c)
   pub byte : gave flex x c ≡ gives (fate M S a c)
 
@@ -179,17 +179,17 @@ module _ (M S : ℕ) (z : Shape M S) (x : Machine) (a : Ledger) (f : Fine M S x 
         (subst (λ (ps : List Put). Formed tab′ (set (a .fcbs) n (puts (getD (a .fcbs) n []) 0 ps))) (met .laid)
         (formed-puts (x .tab) (a .fcbs) (f .formed) (f .agrees .tlen) n (onBlock (call (x .img) (x .tab) n b)) hn (met .within)))
 
-    -- if it was accepted, it is no raw write
-    not-raw : raw (sceneOf x a (asking n b)) ≡ false → reply (ended φ) ≡ 0 → writesRaw (functionIn (x .tab) (320 * n)) ≡ false
+    -- if it is to be accepted, it is no raw write
+    not-raw : raw (sceneOf M S x a (asking n b)) ≡ false → reply (ended φ) ≡ 0 → writesRaw (functionIn (x .tab) (320 * n)) ≡ false
     unfolding outcome
     not-raw p e =
-        ap (λ (q : Request). writesRaw (q .code)) (asks-is n b hn) ∙ go (writesRaw (asks a n b .code)) (rw (eq-eqb (answer (call (x .img) (x .tab) n b)) 0 (met .ans ∙ e)) at p)
+        ap (λ (q : Request). writesRaw (q .code)) (asks-is n b hn) ∙ go (writesRaw (asks a n b .code)) (rw (fate-here, eq-eqb (reply (ended φ)) 0 e) at p)
       where
         go : (u : Bool) → pick u true false ≡ false → u ≡ false
         go true h = h
         go false h = refl
 
-    ask-fine : raw (sceneOf x a (asking n b)) ≡ false → Fine M S (next flex x (asking n b)) (putInto (ledgerBy a φ) n (putsBy (ended φ)))
+    ask-fine : raw (sceneOf M S x a (asking n b)) ≡ false → Fine M S (next flex x (asking n b)) (putInto (ledgerBy a φ) n (putsBy (ended φ)))
     unfolding next outcome
     ask-fine p =
         let tab′ = puts (x .tab) (320 * n) (onBlock (call (x .img) (x .tab) n b)) in
@@ -388,7 +388,7 @@ likewise-asked M S x a n b k =
 -- THE HISTORY: after every list of plain calls
 module _ (M S : ℕ) (z : Shape M S) where
   pub always : (cs : List Call) (x : Machine) (a : Ledger) → Fine M S x a → Plain (scenes M S a (log flex x cs))
-      → Fine M S (run flex x cs) (history M S a (log flex x cs)) × Told M S (scenes M S a (log flex x cs))
+      → Fine M S (run flex x cs) (history M S a (log flex x cs)) × Told (scenes M S a (log flex x cs))
   unfolding run log history scenes entry
   always [] x a f p = (f, tt)
   always (c ∷ cs) x a f p =

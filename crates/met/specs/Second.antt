@@ -22,7 +22,7 @@ use Rattle.laws.specs.Addresses.{Shape}
 use Rattle.chains.specs.Chain.{pieces, length-pieces}
 use Rattle.demands.specs.Ledger.{Call, setting, extending, asking, File, noFile, Block, closed, listing, reading, writing, Ledger, Request, asks, Fate, denied, granted, reply, Sought, nowhere, slot, onSought, fileNamed, vacantSlot, slotForNew, holdsOpen, busy, activity, block, file, attributes, entryOf, tableOf, setBlock, setFile, withLast, withName, newFile, unusedSlots, addSector, padTo, openedToRead, openedToWrite, shutBlock, performed, called}
 use Rattle.demands.specs.Service.{flex, Machine, answers, next, entry, run, log}
-use Rattle.demands.specs.History.{then, history, scenes, Plain, hits, nameAfter, nameThen, Survives, sentBy, concat, front, content}
+use Rattle.demands.specs.History.{then, history, scenes, Plain, hits, nameAfter, nameThen, ending, Survives, sentBy, concat, front, content}
 use Rattle.demands.specs.Demands.{Start, begun, lastTrackOf, perTrackOf, told, past, Asks, Idle, nameOf, rest, counted, ReadBack, Kept, Created, Demand2}
 use Rattle.met.specs.Relation.{opens, writes, Writing, Keeps}
 use Rattle.met.specs.Quiet.{nobody, writes-opens}
@@ -90,7 +90,7 @@ module _ (M S : ℕ) (z : Shape M S) where
 
   -- ---- the name stays legal
   rename-ok : (x : Machine) (a : Ledger) (g : Fine M S x a) (n b : ℕ) (nm : List ℕ) → legal nm 0 ≡ true → (u : Bool)
-      → hits 13 nm (sceneOf x a (asking n b)) ≡ u → legal (pick u (asks a n b .rename) nm) 0 ≡ true
+      → hits 13 nm (sceneOf M S x a (asking n b)) ≡ u → legal (pick u (asks a n b .rename) nm) 0 ≡ true
   rename-ok x a g n b nm l false e = l
   rename-ok x a g n b nm l true e =
       let p = both (eqb (answers flex x (asking n b)) 0) _ e in
@@ -107,17 +107,17 @@ module _ (M S : ℕ) (z : Shape M S) where
           by (denied v) k su an = absurd (su (sym an ∙ q))
           by (granted v a′ ps) k su an = rename-legal a a′ n (asks a n b) k c
 
-  name-ok : (x : Machine) (a : Ledger) (g : Fine M S x a) (c : Call) (nm : List ℕ) → legal nm 0 ≡ true → legal (nameAfter nm (sceneOf x a c)) 0 ≡ true
+  name-ok : (x : Machine) (a : Ledger) (g : Fine M S x a) (c : Call) (nm : List ℕ) → legal nm 0 ≡ true → legal (nameAfter nm (sceneOf M S x a c)) 0 ≡ true
   name-ok x a g (setting n i v) nm l = either-way (eqb (answers flex x (setting n i v)) 0) nm l
   name-ok x a g (extending n c) nm l = either-way (eqb (answers flex x (extending n c)) 0) nm l
-  name-ok x a g (asking n b) nm l = rename-ok x a g n b nm l (hits 13 nm (sceneOf x a (asking n b))) refl
+  name-ok x a g (asking n b) nm l = rename-ok x a g n b nm l (hits 13 nm (sceneOf M S x a (asking n b))) refl
 
   legal-then : (cs : List Call) (x : Machine) (a : Ledger) → Fine M S x a → Plain (scenes M S a (log flex x cs)) → (nm : List ℕ) → legal nm 0 ≡ true
       → legal (nameThen nm (scenes M S a (log flex x cs))) 0 ≡ true
   unfolding log scenes entry nameThen
   legal-then [] x a g p nm l = l
   legal-then (c ∷ cs) x a g p nm l =
-      legal-then cs (next flex x c) (then M S a (entry flex x c)) (step M S z x a g c .fine (p .0)) (p .1) (nameAfter nm (sceneOf x a c)) (name-ok x a g c nm l)
+      legal-then cs (next flex x c) (then M S a (entry flex x c)) (step M S z x a g c .fine (p .0)) (p .1) (nameAfter nm (sceneOf M S x a c)) (name-ok x a g c nm l)
 
   -- ---- a call whose fate is known
   module _ (x : Machine) (a : Ledger) (g : Fine M S x a) (n b : ℕ) (hn : n < 8) where
@@ -153,7 +153,7 @@ module _ (M S : ℕ) (z : Shape M S) where
         let l = like-by x a g m b (k .block) _ opened in
         record {
           opens = answer-by x a g m b (k .block) _ opened;
-          reads = λ cs pl op. reads M S z cs (next flex x (asking m b)) a1 (step M S z x a g (asking m b) .fine (plain-code x a m b 1 (k .function) refl)) m s 0 (concat (f .body)) (k .block)
+          reads = λ cs pl op. reads M S z cs (next flex x (asking m b)) a1 (step M S z x a g (asking m b) .fine (plain-code M S x a m b 1 (k .function) refl)) m s 0 (concat (f .body)) (k .block)
               (at-start a1 m s (concat (f .body))
               (ap (λ (bs : List Block). getD bs m closed) (l .blocks) ∙ getD-set-same (a .blocks) m (reading s 0 0) closed (omega (arith, g .agrees .nb, k .block)))
               (ap (λ (fs : List File). concat ((getD fs s noFile) .body)) (l .slots) ∙ ap (λ (y : File). concat (y .body)) (r .is))) pl op;
@@ -256,21 +256,21 @@ module _ (M S : ℕ) (z : Shape M S) where
       kept ok =
           let x1 = next flex x (asking n b) in
           let h1 = then M S a (entry flex x (asking n b)) in
-          let g1 = step M S z x a g (asking n b) .fine (plain-code x a n b 4 (k .function) refl) in
+          let g1 = step M S z x a g (asking n b) .fine (plain-code M S x a n b 4 (k .function) refl) in
           let sh = shut-fate in
           let l = like-by x a g n b hn _ close-fate in
           let r1 = rests-like (ledgerBy a (shutBlock M S a n (asks a n b) (writing s (w .left)))) h1 l s (sh .f) (sh .at-rest) in
           record {
             numbers = λ cs pl sv.
                 let ss = scenes M S h1 (log flex x1 cs) in
-                let rs = rests M S z cs x1 h1 g1 s (sh .f) r1 pl (subst (λ (y : List ℕ). Survives y ss) (sym (sh .name)) sv) in
+                let rs = rests M S z cs x1 h1 g1 s (sh .f) r1 pl (subst (λ (y : List ℕ). Survives ending y ss) (sym (sh .name)) sv) in
                 let g2 = always M S z cs x1 h1 g1 pl .0 in
                 sym (g2 .agrees .holds s (omega (arith, rs .low, g2 .agrees .ns)) .recs) ∙ ap (λ (f : File). f .recs) (rs .is) ∙ sh .recs;
             back = λ cs pl sv m c ka i e.
                 let ss = scenes M S h1 (log flex x1 cs) in
                 let nm′ = nameThen nm ss in
                 let fn : nameThen (sh .f .name) ss ≡ nm′ = ap (λ (y : List ℕ). nameThen y ss) (sh .name) in
-                let rs = rests M S z cs x1 h1 g1 s (sh .f) r1 pl (subst (λ (y : List ℕ). Survives y ss) (sym (sh .name)) sv) in
+                let rs = rests M S z cs x1 h1 g1 s (sh .f) r1 pl (subst (λ (y : List ℕ). Survives ending y ss) (sym (sh .name)) sv) in
                 let rs2 : Rests (history M S h1 (log flex x1 cs)) s (withName (sh .f) nm′) =
                 subst (λ (y : List ℕ). Rests (history M S h1 (log flex x1 cs)) s (withName (sh .f) y)) fn rs in
                 subst (λ (l : List ℕ). ReadBack flex M S (run flex x1 cs) (history M S h1 (log flex x1 cs)) l m c) (sh .bytes)
@@ -305,7 +305,7 @@ module _ (M S : ℕ) (z : Shape M S) where
     pub created : Created flex M S x a n s b
     created =
         let x1 = next flex x (asking n b) in
-        let g1 = step M S z x a g (asking n b) .fine (plain-code x a n b 2 (k .function) refl) in
+        let g1 = step M S z x a g (asking n b) .fine (plain-code M S x a n b 2 (k .function) refl) in
         let l = like-by x a g n b (k .block) _ made in
         let w0 : Wrote a2 n s (nameOf a n) [] = wrote-like a′ a2 l n s (nameOf a n) [] starts in
         let hs : s < length (slotsOf (a2 .dir)) = wrt x1 a2 g1 [] w0 .slot in

@@ -295,8 +295,8 @@ module _ (M S : ℕ) (z : Shape M S) where
 
   module _ (x : Machine) (a : Ledger) (g : Fine M S x a) (n s : ℕ) (nm sent : List ℕ) (hn : n < 8) (w : Wrote a n s nm sent) where
     abbrev Now : Call → Type 0
-    Now c = Wrote (then M S a (entry flex x c)) n s nm (sent ++ sentIn n (sceneOf x a c))
-        × (calls n 0 (sceneOf x a c) ≡ true → room a n ≡ true → answers flex x c ≡ 0)
+    Now c = Wrote (then M S a (entry flex x c)) n s nm (sent ++ sentIn n (sceneOf M S x a c))
+        × (calls n 0 (sceneOf M S x a c) ≡ true → room a n ≡ true → answers flex x c ≡ 0)
 
     kept-by : (a′ : Ledger) → Untouched a a′ n s → Wrote a′ n s nm (sent ++ [])
     kept-by a′ u =
@@ -319,14 +319,14 @@ module _ (M S : ℕ) (z : Shape M S) where
         (kept-by (then M S a (entry flex x (asking m b))) (other-call x a g m b n s hn ne (ap opens (w .writer))), λ q. absurd-bool q refl)
 
     -- its own, refused
-    own-refused : (b : ℕ) → answers flex x (asking n b) ≢ 0 → Wrote (then M S a (entry flex x (asking n b))) n s nm (sent ++ sentIn n (sceneOf x a (asking n b)))
+    own-refused : (b : ℕ) → answers flex x (asking n b) ≢ 0 → Wrote (then M S a (entry flex x (asking n b))) n s nm (sent ++ sentIn n (sceneOf M S x a (asking n b)))
     unfolding entry
     own-refused b q =
         subst (λ (l : List ℕ). Wrote (then M S a (entry flex x (asking n b))) n s nm (sent ++ l)) (sym nothing)
         (kept-by (then M S a (entry flex x (asking n b))) (untouched a (then M S a (entry flex x (asking n b))) n s (likewise-refused M S a n b _ _ q)))
       where
-        nothing : sentIn n (sceneOf x a (asking n b)) ≡ []
-        nothing = rw (ne-eqb (answers flex x (asking n b)) 0 q) (pick-none (calls n 0 (sceneOf x a (asking n b))))
+        nothing : sentIn n (sceneOf M S x a (asking n b)) ≡ []
+        nothing = rw (ne-eqb (answers flex x (asking n b)) 0 q) (pick-none (calls n 0 (sceneOf M S x a (asking n b))))
 
     no-room : a .free ≡ [] → length (unfinished (block a n)) ≡ 0 → room a n ≡ true → ⊥
     no-room e u h = absurd-bool h (rw (e, u) refl)
@@ -342,7 +342,7 @@ module _ (M S : ℕ) (z : Shape M S) where
         let st = asked M S z x a g n b hn in
         by (called M S a n (asks a n b)) (st .ans) (likewise-asked M S x a n b st) (subst (Wrought a n s nm sent b) (sym φ) (own-write x a g n s nm sent hn w (asks a n b)))
       where
-        sent-here : answers flex x (asking n b) ≡ 0 → b ∷ [] ≡ sentIn n (sceneOf x a (asking n b))
+        sent-here : answers flex x (asking n b) ≡ 0 → b ∷ [] ≡ sentIn n (sceneOf M S x a (asking n b))
         sent-here q = rw (eq-eqb n n refl, eq-eqb (asks a n b .code) 0 c, eq-eqb (answers flex x (asking n b)) 0 q) refl
 
         by : (φ : Fate) → answers flex x (asking n b) ≡ reply φ → Likewise (ledgerBy a φ) (then M S a (entry flex x (asking n b)))
@@ -353,7 +353,7 @@ module _ (M S : ℕ) (z : Shape M S) where
         )
         by φ an l (full e u) = (own-refused b (omega (arith, an)), λ r f. absurd (no-room e u f))
 
-    wrote-one : (c : Call) → Only n (0 ∷ []) (sceneOf x a c ∷ []) → Now c
+    wrote-one : (c : Call) → Only n (0 ∷ []) (sceneOf M S x a c ∷ []) → Now c
     unfolding entry
     wrote-one (setting m i v) op =
         (kept-by (then M S a (entry flex x (setting m i v))) (untouched a (then M S a (entry flex x (setting m i v))) n s (likewise-set M S a m i v _ _)), λ q. absurd-bool q refl)
@@ -361,14 +361,14 @@ module _ (M S : ℕ) (z : Shape M S) where
         (kept-by (then M S a (entry flex x (extending m c))) (untouched a (then M S a (entry flex x (extending m c))) n s (likewise-extend M S a m c _ _)), λ q. absurd-bool q refl)
     wrote-one (asking m b) op = go (ℕ-discrete m n)
       where
-        own : (op : Only n (0 ∷ []) (sceneOf x a (asking n b) ∷ [])) → Dec (asks a n b .code ≡ 0) → Dec (answers flex x (asking n b) ≡ 0) → Now (asking n b)
+        own : (op : Only n (0 ∷ []) (sceneOf M S x a (asking n b) ∷ [])) → Dec (asks a n b .code ≡ 0) → Dec (answers flex x (asking n b) ≡ 0) → Now (asking n b)
         own op (yes c) q = own-byte b c
         own op (no c) (yes q) = absurd (c (one-of (asks a n b .code) (rw (eq-eqb n n refl) at (op .0 q))))
         own op (no c) (no q) = (own-refused b q, λ h. absurd-bool h (rw (eq-eqb n n refl, ne-eqb (asks a n b .code) 0 c) refl))
 
         go : Dec (m ≡ n) → Now (asking m b)
         go (yes e) =
-            subst (λ (k : ℕ). Only n (0 ∷ []) (sceneOf x a (asking k b) ∷ []) → Now (asking k b)) (sym e)
+            subst (λ (k : ℕ). Only n (0 ∷ []) (sceneOf M S x a (asking k b) ∷ []) → Now (asking k b)) (sym e)
             (λ op. own op (ℕ-discrete (asks a n b .code) 0) (ℕ-discrete (answers flex x (asking n b)) 0)) op
         go (no e) = other m b e
 
@@ -379,7 +379,7 @@ module _ (M S : ℕ) (z : Shape M S) where
   unfolding log history scenes entry sentBy
   written [] x a g n s nm sent hn w p op = (subst (λ (l : List ℕ). Wrote a n s nm l) (sym (append-nil sent)) w, tt)
   written (c ∷ cs) x a g n s nm sent hn w p op =
-      let sc = sceneOf x a c in
+      let sc = sceneOf M S x a c in
       let a′ = then M S a (entry flex x c) in
       let ss = scenes M S a′ (log flex (next flex x c) cs) in
       let w1 = wrote-one x a g n s nm sent hn w c (op .0, tt) in

@@ -144,7 +144,7 @@ module _ (M S : ℕ) (z : Shape M S) where
             let q : answers flex y (asking n b) ≢ 0 = λ e. omega (arith, e, beyond M S z y a g n b (omega arith)) in
             freed-like (asking n b) a (likewise-refused M S a n b _ _ q) same
 
-    pub free-stays : (c : Call) → raw (sceneOf y a c) ≡ false → (k : ℕ) → member k (a .free) ≡ true → member k ((then M S a (entry flex y c)) .free) ≡ true
+    pub free-stays : (c : Call) → raw (sceneOf M S y a c) ≡ false → (k : ℕ) → member k (a .free) ≡ true → member k ((then M S a (entry flex y c)) .free) ≡ true
         → part (next flex y c .img) (256 * k + 2) 254 ≡ part (y .img) (256 * k + 2) 254
     free-stays c p k h h′ =
         let a′ = then M S a (entry flex y c) in
@@ -335,7 +335,7 @@ module _ (M S : ℕ) (z : Shape M S) (img tab img′ tab′ : List ℕ) (a a′ 
   pub spared-rest : part img′ (o + 11) 13 ≡ part img (o + 11) 13
   spared-rest =
       ap (λ (x : ℕ). part img′ (x + 11) 13) (sym stood) ∙ rest-is M S z img′ tab′ a′ r′ s hs′
-      ∙ ap (λ (f : File). f .mode ++ (f .ends ++ f .date)) same-file ∙ sym (rest-is M S z img tab a r s hs)
+      ∙ ap (λ (f : File). f .mode ++ (f .ends ++ (f .map ++ f .date))) same-file ∙ sym (rest-is M S z img tab a r s hs)
 
   pub spared-entry : nm ≡ file a s .name → part img′ o 24 ≡ part img o 24
   spared-entry e =

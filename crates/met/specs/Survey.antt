@@ -97,6 +97,7 @@ module _ (M S : ℕ) (z : Shape M S) (img : List ℕ) (h : Sized M S img) (small
         name = refl;
         mode = refl;
         ends = refl;
+        map = refl;
         date = refl;
         chain = λ v. let u : live img o ≡ true = l ∙ v in subst (λ (x : Bool). Chain S img (o + 13) (pick x (chainAt S img (o + 13)) [])) (sym u) (c u);
         dead = λ v. ap (λ (x : Bool). pick x (chainAt S img (o + 13)) []) (l ∙ v);
@@ -159,9 +160,9 @@ module _ (M S : ℕ) (z : Shape M S) (img : List ℕ) (h : Sized M S img) (small
 
 -- ---- COMPLETE: a ledger that image and table agree with, and that is tidy
 
-file-path : (f g : File) → f .at ≡ g .at → f .name ≡ g .name → f .mode ≡ g .mode → f .ends ≡ g .ends → f .date ≡ g .date → f .secs ≡ g .secs
-    → f .recs ≡ g .recs → f .body ≡ g .body → f ≡ g
-file-path f g o p m e d q c r = λ i. record { at = o i; name = p i; mode = m i; ends = e i; date = d i; secs = q i; recs = c i; body = r i }
+file-path : (f g : File) → f .at ≡ g .at → f .name ≡ g .name → f .mode ≡ g .mode → f .ends ≡ g .ends → f .map ≡ g .map → f .date ≡ g .date
+    → f .secs ≡ g .secs → f .recs ≡ g .recs → f .body ≡ g .body → f ≡ g
+file-path f g o p m e v d q c r = λ i. record { at = o i; name = p i; mode = m i; ends = e i; map = v i; date = d i; secs = q i; recs = c i; body = r i }
 
 -- a slot that holds a file: its sectors are found by its links, and it is the file
 module _ (M S : ℕ) (z : Shape M S) (m : List ℕ) (o : ℕ) (f : File) (h : Holds S m o f) (all : AllData M S (f .secs)) (few : length (f .secs) ≤ M * S) where
@@ -182,7 +183,7 @@ module _ (M S : ℕ) (z : Shape M S) (m : List ℕ) (o : ℕ) (f : File) (h : Ho
   pub file-held : fileAt S m o ≡ f
   unfolding fileAt
   file-held =
-      file-path (fileAt S m o) f (sym (h .at)) (h .name) (h .mode) (h .ends) (h .date) secs-held (ap (pieces 2 2 m) secs-held ∙ sym (h .recs)) (ap (contents m) secs-held ∙ sym (h .body))
+      file-path (fileAt S m o) f (sym (h .at)) (h .name) (h .mode) (h .ends) (h .map) (h .date) secs-held (ap (pieces 2 2 m) secs-held ∙ sym (h .recs)) (ap (contents m) secs-held ∙ sym (h .body))
 
 module _ (M S : ℕ) (z : Shape M S) (img tab : List ℕ) (a : Ledger) (r : Agrees M S img tab a) where
   free-back : (chainAt S img 541 ≡ a .free) × (chainRight img M S (wordAt img 541) (wordAt img (541 + 2)) (wordAt img (541 + 4)) ≡ true)

@@ -223,7 +223,8 @@ module _ (M S : ℕ) (z : Shape M S) (img tab : List ℕ) (a : Ledger) (r : Agre
         name = part-same img img′ o o 11 (λ i b. in-slot-kept i (o + i) refl (omega arith)) ∙ h .name;
         mode = part-same img img′ (o + 11) (o + 11) 2 (λ i b. in-slot-kept (11 + i) (o + 11 + i) (omega arith) (omega arith)) ∙ h .mode;
         ends = part-is img′ (o + 13) 6 (six (adr S (first l′ 0)) (adr S k) (length l + 1)) refl (λ i b. at i (o + 13 + i) b refl);
-        date = part-same img img′ (o + 19) (o + 19) 5 (λ i b. in-slot-late (19 + i) (o + 19 + i) (omega arith) (omega arith) (omega arith)) ∙ h .date;
+        map = part-same img img′ (o + 19) (o + 19) 1 (λ i b. in-slot-late (19 + i) (o + 19 + i) (omega arith) (omega arith) (omega arith)) ∙ h .map;
+        date = part-same img img′ (o + 20) (o + 20) 4 (λ i b. in-slot-late (20 + i) (o + 20 + i) (omega arith) (omega arith) (omega arith)) ∙ h .date;
         chain = λ v. hung-on S img img′ (o + 13) l (k ∷ []) c (λ x. omega (arith, tk x))
             (λ j i t ne b. sector j i (secs-data M S z img tab a r s hs j t .0) (l-off j t) (in-l j t) (omega arith) (λ o q. absurd (ne q))) link-is
             (word-put img′ (256 * k) 0 (omega arith) (ap (λ (p : ℕ). getD img′ p 0) (omega arith) ∙ new 0 (omega arith) ∙ fresh-zero (length l + 1) 0 (omega arith) (omega arith)) (new 1 (omega arith) ∙ fresh-zero (length l + 1) 1 (omega arith) (omega arith)) ∙ sym (adr-zero S), tt)

@@ -1,33 +1,29 @@
--- Each function stores only where it may: `Tamed`, of every outcome. On an image of the right shape; `asked` needs no such thing.
-use mathlib.Core.Path.{_≡_, refl, sym, ap, _∙_, subst}
+-- Each function puts only into the bytes of its block that it names: `Tamed`, of every outcome.
+use mathlib.Core.Path.{_≡_, refl, sym, subst}
 use mathlib.Core.Logic.{_≢_}
-use mathlib.Core.Bool.{Bool, true, false}
+use mathlib.Core.Bool.{true, false}
 use mathlib.Core.List.{List, [], _∷_}
-use Prim.Native.Nat.{ℕ, _+_, _-_, _/_, _%_, _≤_, _<_}
+use Prim.Native.Nat.{ℕ, _+_, _-_, _%_, _≤_, _<_}
 use native.Mathlib.Omega.{arith}
-use lib.ListN.{length, length-append}
+use lib.ListN.{length}
 use lib.Dec.{eqb, ltb}
 use borrow.Author.Tests.{eqb-true, eqb-false}
 use Rattle.rules.specs.Bytes.{pick, within, part, one, two, six, zeros, same}
-use Rattle.rules.specs.Stores.{Store, store, Put, put}
-use Rattle.rules.specs.Image.{lastTrack, perTrack, shapeRight, index, isSector, isData, linkOf, infoSector, firstFree, lastFree, freeCount}
+use Rattle.rules.specs.Stores.{Store, Put, put}
+use Rattle.rules.specs.Image.{lastTrack, perTrack, shapeRight, isSector, isData, firstFree, lastFree, freeCount}
 use Rattle.rules.specs.Names.{legal}
-use Rattle.rules.specs.Directory.{firstOfDirectory, mostOfDirectory, firstSlotOf, member, placeOf, slotBehind, lastOf, directoryRight, directory, slots, find, vacancy, attributesAt, startAt, endAt, sizeAt}
+use Rattle.rules.specs.Directory.{firstOfDirectory, mostOfDirectory, firstSlotOf, member, placeOf, slotBehind, directoryRight, directory, slots, find, vacancy, attributesAt, startAt, endAt, sizeAt}
 use Rattle.rules.specs.Outcome.{Outcome, done}
 use Rattle.rules.specs.Block.{nameField, indexField, newNameField, bufferField, functionIn, activityIn, driveIn, sizeIn, positionIn, indexIn, nameIn, newNameIn, placeIn, inUse}
-use Rattle.rules.specs.Transfer.{nextToRead, loadPuts, load, reading, offFree, slotIn, linked, fresh, newStart, newSize, takeStores, takePuts, takeFor, takeSector, sent, fill, writing, transfer, shut, mark, closeWriting, close}
-use Rattle.rules.specs.Files.{opened, openRead, newEntry, growStores, grow, openWrite, rewind, openDirectory, shown, nextSlot, putSlot, readSector, writeSector, writeProtected, deleteProtected, readProtected, hangStores, gone, remove, delete, rename}
+use Rattle.rules.specs.Transfer.{nextToRead, loadPuts, load, reading, slotIn, fresh, takePuts, takeFor, takeSector, sent, fill, writing, transfer, shut, mark, closeWriting, close}
+use Rattle.rules.specs.Files.{opened, openRead, newEntry, grow, openWrite, rewind, openDirectory, shown, nextSlot, putSlot, readSector, writeSector, writeProtected, deleteProtected, readProtected, gone, remove, delete, rename}
 use Rattle.rules.specs.Call.{served, fits, checked, perform, asked}
 use Rattle.laws.specs.Tests.{either, within-is, pick-all, pick-cases}
-use Rattle.laws.specs.Bytes.{length-one, length-two, length-six, length-zeros, length-part, length-fresh}
-use Rattle.laws.specs.Each.{Each, each-append, member-here, member-there}
-use Rattle.laws.specs.Addresses.{Shaped, shape-is, data-is, data-low}
-use Rattle.laws.specs.Slots.{InDirectory, directory-in, IsSlot, slot-is, OneOf, find-is, vacancy-is, placed-is}
+use Rattle.laws.specs.Bytes.{length-one}
+use Rattle.laws.specs.Each.{Each}
 use Rattle.laws.specs.Fair.{onSlot-all, onNone-all, orElse-all}
-use Rattle.laws.specs.Facts.{second}
-use Rattle.demands.specs.Demands.{names, looks, slotNamed, isMissing, grows, sectorsNamed, movesFree}
-use Rattle.rules.specs.declared.Lookup.the-variants.{At, Missing}
-use Rattle.met.specs.Bounds.{touches, spans, Touched, spans-at, lands, lands-each, Stored, in-raw, in-record, in-slot, in-link, in-sector, Tamed, tame-still, tame-done, tame-then}
+use Rattle.demands.specs.Demands.{names, looks}
+use Rattle.met.specs.Bounds.{touches, spans, Touched, spans-at, lands, lands-each, Tamed, tame-still, tame-done, tame-then}
 
 -- of the codes that are served, 13 is the one that is left
 above : (m c : ℕ) → m ≤ c → c ≢ m → m + 1 ≤ c
@@ -50,7 +46,7 @@ last-code c h n0 n1 n2 n4 n5 n6 n7 n8 n9 n10 n12 =
     last : 13 ≤ c → c ≤ 13 → c ≡ 13
     last a b = omega arith
 
-module _ (img tab : List ℕ) (f b : ℕ) (z : Shaped img) where
+module _ (img tab : List ℕ) (f b : ℕ) where
   abbrev M : ℕ
   M = lastTrack img
 
@@ -58,71 +54,13 @@ module _ (img tab : List ℕ) (f b : ℕ) (z : Shaped img) where
   S = perTrack img
 
   abbrev T : ℕ → ℕ → Outcome → Type 0
-  T code act o = Tamed img tab f code act o
-
-  -- as code c may store
-  abbrev L : ℕ → Store → Type 0
-  L c s = Stored img tab f c s
-
-  abbrev Slot : ℕ → ℕ → Type 0
-  Slot c slot = slotNamed img tab f c ≡ At slot
-
-  abbrev Sector : ℕ → ℕ → Type 0
-  Sector c a = member (index S a) (sectorsNamed img tab f c) ≡ true
-
-  -- ---- stores of the image
-
-  info-lies : (c : ℕ) (vs : List ℕ) → movesFree img c ≡ true → length vs ≡ 6 → L c (store infoSector 29 vs)
-  info-lies c vs m l = in-record vs m l
-
-  off-lies : (c : ℕ) → movesFree img c ≡ true → L c (offFree img S)
-  unfolding offFree
-  off-lies c m =
-      info-lies c _ m
-      (pick-all (λ (l : List ℕ). length l ≡ 6) (eqb (freeCount img) 1) (zeros 6) _ (length-zeros 6) (length-six (linkOf img (index S (firstFree img))) (lastFree img) (freeCount img - 1)))
-
-  one-is : (o : ℕ) → OneOf img M S o → IsSlot M S o
-  one-is o p = slot-is img M S (z .shape .sectors) o (p .one-of)
-
-  slot-lies : (c slot at n : ℕ) (vs : List ℕ) → IsSlot M S slot → Slot c slot → length vs ≡ n → slot % 256 ≤ at → at + n ≤ slot % 256 + 24
-      → L c (store (slot / 256) at vs)
-  slot-lies c slot at n vs s e l h k = in-slot slot (slot / 256) at vs e (omega (arith, s .sector-low)) (omega arith) (omega arith)
-
-  data-lies : (c a i n : ℕ) (vs : List ℕ) → isData M S a ≡ true → Sector c a → length vs ≡ n → i + n ≤ 256 → L c (store (index S a) i vs)
-  data-lies c a i n vs d m l h = in-sector (index S a) i vs (omega (arith, z .shape .sectors)) (data-low M S a (data-is M S a d)) m (omega arith)
-
-  linked-lies : (c : ℕ) (none : Bool) (a v : ℕ) → (none ≡ false → isData M S a ≡ true) → Sector c a → Each (L c) (linked none (index S a) v)
-  unfolding linked
-  linked-lies c none a v d m =
-      pick-cases (Each (L c)) none [] _ (λ e. tt) (λ e. (data-lies c a 0 2 (two v) (d e) m (length-two v) (omega arith), tt))
-
-  mark-lies : (c slot : ℕ) → IsSlot M S slot → Slot c slot → Each (L c) (mark slot)
-  unfolding mark
-  mark-lies c slot s e = (slot-lies c slot (slot % 256) 1 (one 255) s e (length-one 255) (omega arith) (omega arith), tt)
-
-  -- a new slot's 24 bytes
-  entry-long : length (newEntry tab f) ≡ 24
-  unfolding newEntry part zeros
-  entry-long = refl
-
-  -- the data sectors
-  first-in : Sector 0 (firstFree img)
-  first-in = member-here (index S (firstFree img)) _
-
-  written-in : Sector 0 (positionIn tab f)
-  written-in = member-there _ _ _ (member-here (index S (positionIn tab f)) _)
-
-  closed-in : Sector 4 (positionIn tab f)
-  closed-in = member-here (index S (positionIn tab f)) _
-
-  last-in : Sector 12 (lastFree img)
-  last-in = member-here (index S (lastFree img)) _
+  T code act o = Tamed tab code act o
 
   -- ---- 0, reading
 
   -- a byte is given
   given-tame : (c : ℕ) (ps : List Put) → lands 0 1 ps ≡ true → T 0 1 (done c [] ps)
-  given-tame c ps h = record { byte = λ k. absurd (k refl refl); still = λ k. refl; image = tt; block = λ s. lands-each 0 1 ps h }
+  given-tame c ps h = record { byte = λ k. absurd (k refl refl); still = λ k. refl; block = λ s. lands-each 0 1 ps h }
 
   reading-tame : T 0 1 (reading img tab M S f)
   unfolding reading load loadPuts lands spans touches names within part one two
@@ -134,19 +72,6 @@ module _ (img tab : List ℕ) (f b : ℕ) (z : Shaped img) where
 
   -- ---- 0, writing
 
-  take-lies : (slot : ℕ) → IsSlot M S slot → Slot 0 slot → (eqb (positionIn tab f) 0 ≡ false → isData M S (positionIn tab f) ≡ true)
-      → isData M S (firstFree img) ≡ true → Each (L 0) (takeStores img tab M S f slot)
-  unfolding takeStores
-  take-lies slot s at d e = (
-    off-lies 0 refl,
-    (
-      data-lies 0 (firstFree img) 0 256 _ e first-in (length-fresh (newSize img tab M S f slot)) (omega arith),
-      each-append (L 0) (linked (eqb (positionIn tab f) 0) (index S (positionIn tab f)) (firstFree img)) _
-          (linked-lies 0 (eqb (positionIn tab f) 0) (positionIn tab f) (firstFree img) d written-in)
-          (slot-lies 0 slot (slot % 256 + 13) 6 _ s at (length-six (newStart img tab M S f slot) (firstFree img) (newSize img tab M S f slot)) (omega arith) (omega arith), tt),
-    ),
-  )
-
   take-touched : (new start size : ℕ) → Each (Touched 0 2) (takePuts new start size)
   unfolding takePuts fresh zeros lands spans touches names within one two six
   take-touched new start size = lands-each 0 2 (takePuts new start size) refl
@@ -155,15 +80,12 @@ module _ (img tab : List ℕ) (f b : ℕ) (z : Shaped img) where
   unfolding takeSector takeFor looks
   sector-tame =
       onSlot-all (T 0 2) (slotIn img tab M S f) 5 5 _ tt tt
-      (λ slot e. pick-cases (T 0 2) (pick (eqb (positionIn tab f) 0) true (isData M S (positionIn tab f))) _ _
-      (λ d. pick-all (T 0 2) (eqb (freeCount img) 0) _ _ tt
-      (pick-cases (T 0 2) (isData M S (firstFree img)) _ _
-      (λ n. pick-all (T 0 2) (eqb (sizeIn tab f) 65535) _ _ tt
-      (tame-done img tab f 0 2 _ _ refl
-      (take-lies slot (one-is slot (placed-is img M S _ slot e .0)) e (second _ _ d) n)
-      (λ s. take-touched _ _ _)))
-      (λ n. tt)))
-      (λ d. tt))
+      (λ slot e. pick-all (T 0 2) (pick (eqb (positionIn tab f) 0) true (isData M S (positionIn tab f))) _ _
+      (pick-all (T 0 2) (eqb (freeCount img) 0) _ _ tt
+      (pick-all (T 0 2) (isData M S (firstFree img)) _ _
+      (pick-all (T 0 2) (eqb (sizeIn tab f) 65535) _ _ tt (tame-done tab 0 2 _ _ refl (λ s. take-touched _ _ _)))
+      tt))
+      tt)
 
   sent-touched : (i : ℕ) → i < 256 → Each (Touched 0 2) (sent i b)
   unfolding sent lands spans touches names within one
@@ -172,23 +94,14 @@ module _ (img tab : List ℕ) (f b : ℕ) (z : Shaped img) where
     lands-each 0 2 (put indexField (one ((i + 1) % 256)) ∷ []) refl,
   )
 
-  -- a sector is stored: bytes 4-255 of it
-  buffer-lies : (c : ℕ) → Sector c (positionIn tab f) → (vs : List ℕ) → isData M S (positionIn tab f) ≡ true → length vs ≡ 252
-      → Each (L c) (store (index S (positionIn tab f)) 4 vs ∷ [])
-  buffer-lies c m vs d l = (data-lies c (positionIn tab f) 4 252 vs d m l (omega arith), tt)
-
   writing-tame : T 0 2 (writing img tab M S f b)
   unfolding writing fill looks
   writing-tame =
       pick-all (T 0 2) (eqb (indexIn tab f) 0) _ _
-      (tame-then img tab f 0 2 (takeSector img tab M S f) (sent 4 b) sector-tame (λ s. sent-touched 4 (omega arith)))
+      (tame-then tab 0 2 (takeSector img tab M S f) (sent 4 b) sector-tame (λ s. sent-touched 4 (omega arith)))
       (pick-all (T 0 2) (eqb (indexIn tab f) 255) _ _
-      (pick-cases (T 0 2) (isData M S (positionIn tab f)) _ _
-      (λ d. tame-done img tab f 0 2 _ _ refl
-      (buffer-lies 0 written-in _ d (length-append (part tab (f + (bufferField + 4)) 251) (one b) ∙ omega (arith, length-part tab (f + (bufferField + 4)) 251, length-one b)))
-      (λ s. sent-touched 255 (omega arith)))
-      (λ d. tt))
-      (tame-done img tab f 0 2 [] _ refl tt (λ s. sent-touched (indexIn tab f) (s .at (f + indexField)))))
+      (pick-all (T 0 2) (isData M S (positionIn tab f)) _ _ (tame-done tab 0 2 _ _ refl (λ s. sent-touched 255 (omega arith))) tt)
+      (tame-done tab 0 2 [] _ refl (λ s. sent-touched (indexIn tab f) (s .at (f + indexField)))))
 
   -- ---- 4 close
 
@@ -199,22 +112,12 @@ module _ (img tab : List ℕ) (f b : ℕ) (z : Shaped img) where
   close-writing-tame : T 4 2 (closeWriting img tab M S f)
   unfolding closeWriting looks
   close-writing-tame =
-      pick-all (T 4 2) (eqb (positionIn tab f) 0) _ _
-      (onSlot-all (T 4 2) (slotIn img tab M S f) 5 5 _ tt tt (λ slot e. stored-shut (mark slot) (mark-lies 4 slot (one-is slot (placed-is img M S _ slot e .0)) e)))
-      (pick-all (T 4 2) (eqb (indexIn tab f) 0) _ _ (tame-still img tab f 4 2 shut (shut-lands 2))
-      (pick-cases (T 4 2) (isData M S (positionIn tab f)) _ _ (λ d. stored-shut _ (buffer-lies 4 closed-in _ d (length-part tab _ 252))) (λ d. tt)))
+      pick-all (T 4 2) (eqb (positionIn tab f) 0) _ _ (onSlot-all (T 4 2) (slotIn img tab M S f) 5 5 _ tt tt (λ slot e. stored-shut (mark slot)))
+      (pick-all (T 4 2) (eqb (indexIn tab f) 0) _ _ (tame-still tab 4 2 shut (shut-lands 2))
+      (pick-all (T 4 2) (isData M S (positionIn tab f)) _ _ (stored-shut _) tt))
     where
-      stored-shut : (ss : List Store) → Each (L 4) ss → T 4 2 (done 0 ss shut)
-      stored-shut ss l = tame-done img tab f 4 2 ss shut refl l (λ s. lands-each 4 2 shut (shut-lands 2))
-
-  -- ---- what is hung on the free chain
-
-  hang-lies : (slot count first start end size : ℕ) → IsSlot M S slot → Slot 12 slot → (eqb count 0 ≡ false → isData M S (lastFree img) ≡ true)
-      → Each (L 12) (hangStores S slot count first (lastFree img) start end size)
-  unfolding hangStores
-  hang-lies slot count first start end size s e d =
-      each-append (L 12) (linked (eqb count 0) (index S (lastFree img)) start) _ (linked-lies 12 (eqb count 0) (lastFree img) start d last-in)
-      (info-lies 12 _ refl (length-six _ _ _), mark-lies 12 slot s e)
+      stored-shut : (ss : List Store) → T 4 2 (done 0 ss shut)
+      stored-shut ss = tame-done tab 4 2 ss shut refl (λ s. lands-each 4 2 shut (shut-lands 2))
 
   -- ---- the functions, by the code that they have in `perform`
 
@@ -234,7 +137,7 @@ module _ (img tab : List ℕ) (f b : ℕ) (z : Shaped img) where
   close-tame =
       pick-cases (T 4 (activityIn tab f)) (eqb (activityIn tab f) 2) _ _
       (λ e. subst (λ (a : ℕ). T 4 a (closeWriting img tab M S f)) (sym (eqb-true (activityIn tab f) 2 e)) close-writing-tame)
-      (λ e. tame-still img tab f 4 (activityIn tab f) shut (shut-lands (activityIn tab f)))
+      (λ e. tame-still tab 4 (activityIn tab f) shut (shut-lands (activityIn tab f)))
 
   module _ (act : ℕ) where
     open-read-tame : T 1 act (openRead img tab M S f)
@@ -243,63 +146,44 @@ module _ (img tab : List ℕ) (f b : ℕ) (z : Shaped img) where
         pick-all (T 1 act) (legal tab (f + nameField)) _ _
         (onSlot-all (T 1 act) (find img M S (nameIn tab f)) 5 4 _ tt tt
         (λ slot e. pick-all (T 1 act) (readProtected (attributesAt img slot)) _ _ tt
-        (pick-all (T 1 act) (inUse false tab (placeOf S slot)) _ _ tt (tame-still img tab f 1 act _ refl))))
+        (pick-all (T 1 act) (inUse false tab (placeOf S slot)) _ _ tt (tame-still tab 1 act _ refl))))
         tt
 
     new-lands : (slot : ℕ) → lands 2 act (opened S 2 slot (newEntry tab f)) ≡ true
     unfolding opened placeOf newEntry lands spans touches names within member part zeros one two
     new-lands slot = refl
 
-    grow-lies : vacancy img M S ≡ Missing → isData M S (firstFree img) ≡ true → Each (L 2) (growStores img tab M S f)
-    unfolding growStores
-    grow-lies e d =
-        let g : grows img 2 ≡ true = ap isMissing e in
-        let m : movesFree img 2 ≡ true = g in
-        let k : Sector 2 (firstFree img) = rw g (member-here (index S (firstFree img)) []) in
-        let l = last-low (directory img M S) 4 (omega arith) (directory-in img M S (z .shape .sectors)) in (
-          off-lies 2 m,
-          (
-            data-lies 2 (firstFree img) 0 256 (zeros 256) d k (length-zeros 256) (omega arith),
-            (in-link (two (firstFree img)) g l (length-two (firstFree img)), (data-lies 2 (firstFree img) 16 24 (newEntry tab f) d k entry-long (omega arith), tt)),
-          ),
-        )
-      where
-        last-low : (ks : List ℕ) (x : ℕ) → 4 ≤ x → Each (InDirectory M S) ks → 4 ≤ lastOf ks x
-        last-low [] x h e = h
-        last-low (j ∷ ks) x h e = last-low ks j (e .0 .0) (e .1)
+    new-tame : (ss : List Store) (slot : ℕ) → T 2 act (done 0 ss (opened S 2 slot (newEntry tab f)))
+    unfolding looks member
+    new-tame ss slot = tame-done tab 2 act ss _ refl (λ s. lands-each 2 act (opened S 2 slot (newEntry tab f)) (new-lands slot))
 
-    grow-tame : vacancy img M S ≡ Missing → T 2 act (grow img tab M S f)
-    unfolding grow looks member
-    grow-tame e =
+    grow-tame : T 2 act (grow img tab M S f)
+    unfolding grow
+    grow-tame =
         pick-all (T 2 act) (eqb (freeCount img) 0) _ _ tt
-        (pick-cases (T 2 act) (isData M S (firstFree img)) _ _
-        (λ d. pick-all (T 2 act) (ltb (length (directory img M S)) (mostOfDirectory M S)) _ _
-        (tame-done img tab f 2 act _ _ refl (grow-lies e d) (λ s. lands-each 2 act (opened S 2 _ (newEntry tab f)) (new-lands _)))
+        (pick-all (T 2 act) (isData M S (firstFree img)) _ _
+        (pick-all (T 2 act) (ltb (length (directory img M S)) (mostOfDirectory M S)) _ _ (new-tame _ _) tt)
         tt)
-        (λ d. tt))
 
     open-write-tame : T 2 act (openWrite img tab M S f)
-    unfolding openWrite looks member
+    unfolding openWrite
     open-write-tame =
         pick-all (T 2 act) (legal tab (f + nameField)) _ _
         (onNone-all (T 2 act) (find img M S (nameIn tab f)) 5 3 _ tt tt
-        (orElse-all (T 2 act) (vacancy img M S) 5 _ _ tt grow-tame
-        (λ slot e. tame-done img tab f 2 act _ _ refl
-        (slot-lies 2 slot (slot % 256) 24 (newEntry tab f) (one-is slot (vacancy-is img M S slot e .0)) e entry-long (omega arith) (omega arith), tt)
-        (λ s. lands-each 2 act (opened S 2 slot (newEntry tab f)) (new-lands slot)))))
+        (orElse-all (T 2 act) (vacancy img M S) 5 _ _ tt (λ e. grow-tame) (λ slot e. new-tame _ slot)))
         tt
 
     rewind-tame : T 5 act rewind
     unfolding rewind lands spans touches names within member one two
-    rewind-tame = tame-still img tab f 5 act _ refl
+    rewind-tame = tame-still tab 5 act _ refl
 
     open-directory-tame : T 6 act openDirectory
     unfolding openDirectory lands spans touches names within member one zeros
-    open-directory-tame = tame-still img tab f 6 act _ refl
+    open-directory-tame = tame-still tab 6 act _ refl
 
     shown-tame : (slot : ℕ) → T 7 act (shown img S slot)
     unfolding shown placeOf lands spans touches names within member part one two
-    shown-tame slot = tame-still img tab f 7 act _ refl
+    shown-tame slot = tame-still tab 7 act _ refl
 
     next-slot-tame : T 7 act (nextSlot img tab M S f)
     unfolding nextSlot
@@ -311,39 +195,34 @@ module _ (img tab : List ℕ) (f b : ℕ) (z : Shaped img) where
 
     read-sector-tame : T 9 act (readSector img tab M S f)
     unfolding readSector lands spans touches names within part
-    read-sector-tame = pick-all (T 9 act) (isSector M S (positionIn tab f)) _ _ (tame-still img tab f 9 act _ refl) tt
+    read-sector-tame = pick-all (T 9 act) (isSector M S (positionIn tab f)) _ _ (tame-still tab 9 act _ refl) tt
 
     -- what is written raw: a slot, a sector; the block is left
     put-slot-tame : T 8 act (putSlot img tab M S f)
     unfolding putSlot looks member
-    put-slot-tame =
-        onSlot-all (T 8 act) (slotIn img tab M S f) 5 5 _ tt tt
-        (λ slot e. tame-done img tab f 8 act _ [] refl
-        (slot-lies 8 slot (slot % 256) 24 _ (one-is slot (placed-is img M S _ slot e .0)) e (length-part tab _ 24) (omega arith) (omega arith), tt) (λ s. tt))
+    put-slot-tame = onSlot-all (T 8 act) (slotIn img tab M S f) 5 5 _ tt tt (λ slot e. tame-done tab 8 act _ [] refl (λ s. tt))
 
     write-sector-tame : T 10 act (writeSector img tab M S f)
     unfolding writeSector looks member
-    write-sector-tame =
-        pick-all (T 10 act) (isSector M S (positionIn tab f)) _ _ (tame-done img tab f 10 act _ [] refl (in-raw _ refl (length-part tab _ 256), tt) (λ s. tt)) tt
+    write-sector-tame = pick-all (T 10 act) (isSector M S (positionIn tab f)) _ _ (tame-done tab 10 act _ [] refl (λ s. tt)) tt
 
     gone-lands : (slot : ℕ) → lands 12 act (gone img slot) ≡ true
     unfolding gone lands spans touches names within part one
     gone-lands slot = refl
 
-    removed-tame : (ss : List Store) (slot : ℕ) → Each (L 12) ss → T 12 act (done 0 ss (gone img slot))
+    removed-tame : (ss : List Store) (slot : ℕ) → T 12 act (done 0 ss (gone img slot))
     unfolding looks member
-    removed-tame ss slot l = tame-done img tab f 12 act ss (gone img slot) refl l (λ s. lands-each 12 act (gone img slot) (gone-lands slot))
+    removed-tame ss slot = tame-done tab 12 act ss (gone img slot) refl (λ s. lands-each 12 act (gone img slot) (gone-lands slot))
 
-    remove-tame : (slot : ℕ) → IsSlot M S slot → Slot 12 slot → T 12 act (remove img M S slot)
+    remove-tame : (slot : ℕ) → T 12 act (remove img M S slot)
     unfolding remove
-    remove-tame slot s e =
-        pick-all (T 12 act) (eqb (sizeAt img slot) 0) _ _ (removed-tame _ slot (mark-lies 12 slot s e))
+    remove-tame slot =
+        pick-all (T 12 act) (eqb (sizeAt img slot) 0) _ _ (removed-tame _ slot)
         (pick-all (T 12 act) (isData M S (startAt img slot)) _ _
         (pick-all (T 12 act) (isData M S (endAt img slot)) _ _
-        (pick-cases (T 12 act) (pick (eqb (freeCount img) 0) true (isData M S (lastFree img))) _ _
-        (λ d. pick-all (T 12 act) (ltb 65535 (freeCount img + sizeAt img slot)) _ _ tt
-        (removed-tame _ slot (hang-lies slot _ _ _ _ _ s e (second _ _ d))))
-        (λ d. tt))
+        (pick-all (T 12 act) (pick (eqb (freeCount img) 0) true (isData M S (lastFree img))) _ _
+        (pick-all (T 12 act) (ltb 65535 (freeCount img + sizeAt img slot)) _ _ tt (removed-tame _ slot))
+        tt)
         tt)
         tt)
 
@@ -355,7 +234,7 @@ module _ (img tab : List ℕ) (f b : ℕ) (z : Shaped img) where
         (λ slot e. pick-all (T 12 act) (inUse true tab (placeOf S slot)) _ _ tt
         (pick-all (T 12 act) (deleteProtected (attributesAt img slot)) _ _ tt
         (pick-all (T 12 act) (writeProtected (attributesAt img slot)) _ _ tt
-        (remove-tame slot (one-is slot (find-is img M S _ slot e .0)) e)))))
+        (remove-tame slot)))))
         tt
 
     renamed-lands : lands 13 act (put nameField (newNameIn tab f) ∷ []) ≡ true
@@ -371,9 +250,7 @@ module _ (img tab : List ℕ) (f b : ℕ) (z : Shaped img) where
         (λ slot e. pick-all (T 13 act) (inUse true tab (placeOf S slot)) _ _ tt
         (pick-all (T 13 act) (writeProtected (attributesAt img slot)) _ _ tt
         (onNone-all (T 13 act) (find img M S (newNameIn tab f)) 5 3 _ tt tt
-        (tame-done img tab f 13 act _ _ refl
-        (slot-lies 13 slot (slot % 256) 11 _ (one-is slot (find-is img M S _ slot e .0)) e (length-part tab _ 11) (omega arith) (omega arith), tt)
-        (λ s. lands-each 13 act (put nameField (newNameIn tab f) ∷ []) renamed-lands))))))
+        (tame-done tab 13 act _ _ refl (λ s. lands-each 13 act (put nameField (newNameIn tab f) ∷ []) renamed-lands))))))
         tt)
         tt
 
@@ -409,16 +286,16 @@ module _ (img tab : List ℕ) (f b : ℕ) (z : Shaped img) where
       (λ n12. subst (λ (c : ℕ). T c act (rename img tab M S f)) (sym (last-code code v n0 n1 n2 n4 n5 n6 n7 n8 n9 n10 n12)) (rename-tame act))))))))))))
 
 -- what a call may come to: any image, any table
-pub asked-tame : (img tab : List ℕ) (f b : ℕ) → Tamed img tab f (functionIn tab f) (activityIn tab f) (asked img tab f b)
+pub asked-tame : (img tab : List ℕ) (f b : ℕ) → Tamed tab (functionIn tab f) (activityIn tab f) (asked img tab f b)
 unfolding asked checked
 asked-tame img tab f b =
-    pick-cases A (shapeRight img) _ _
-    (λ z. pick-cases A (served (functionIn tab f)) _ _
+    pick-all A (shapeRight img) _ _
+    (pick-cases A (served (functionIn tab f)) _ _
     (λ v. pick-all A (eqb (driveIn tab f) 0) _ _
-    (pick-cases A (fits (functionIn tab f) (activityIn tab f)) _ _ (λ h. perform-tame img tab f b (shape-is img z) v h) (λ h. tt))
+    (pick-cases A (fits (functionIn tab f) (activityIn tab f)) _ _ (λ h. perform-tame img tab f b v h) (λ h. tt))
     tt)
     (λ v. tt))
-    (λ z. tt)
+    tt
   where
     A : Outcome → Type 0
-    A o = Tamed img tab f (functionIn tab f) (activityIn tab f) o
+    A o = Tamed tab (functionIn tab f) (activityIn tab f) o

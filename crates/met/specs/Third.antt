@@ -194,7 +194,7 @@ module _ (x : Machine) (s : Start x) where
     abbrev h : Ledger
     h = told flex x cs
 
-    f : Fine M S y h × Told M S (scenes M S a (log flex x cs))
+    f : Fine M S y h × Told (scenes M S a (log flex x cs))
     f = always M S (start-shape x s) cs x a (start-fine x s) pl
 
     on : Onward S a h

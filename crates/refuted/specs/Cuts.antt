@@ -18,15 +18,15 @@ use Rattle.laws.specs.Stores.{stored-append}
 use Rattle.mending.specs.Cases.{diskette, at, link, free, file as entry}
 use Rattle.chains.specs.Files.{sectorsAt}
 use Rattle.demands.specs.Ledger.{Call, setting, asking, File, noFile}
-use Rattle.demands.specs.Service.{flex, imgOf, Machine, next, run}
+use Rattle.demands.specs.Service.{flex, imgOf, Machine, next, run, SendsByte}
 use Rattle.demands.specs.History.{Plain}
 use Rattle.demands.specs.Demands.{sectorsIn, Closed, Start, told, past}
 use Rattle.demands.specs.Repairs.{repairs, SameSector}
-use Rattle.demands.specs.Cuts.{Order, inOrder, storesOf, stopped, unusedIn, filesIn, leftWith, mendedOf, Recovered, SendsByte, PowerCut}
+use Rattle.demands.specs.Cuts.{Order, inOrder, storesOf, stopped, unusedIn, filesIn, leftWith, mendedOf, Recovered, PowerCut}
 use Rattle.demands.specs.Fakes.{thirdEarly, fourthEarly, lastFirst, linking, slotFirst, markFirst, naming, scratching, lingering, inBytes, torn, tearing}
 use Rattle.refuted.specs.All.{demands}
 use Rattle.refuted.specs.Pair.{bDat, below, small-below, pair, pair-start, full, full-start, paired}
-use Rattle.refuted.specs.Refuted.{differ}
+use Rattle.refuted.specs.AnyBytes.{differ}
 use Rattle.refuted.specs.Mended.{number}
 
 -- ---- what is computed
@@ -342,7 +342,7 @@ tearing-fails d =
     (ap (λ (l : List ℕ). byteAt l 18)
     (d .cut stale stale-start stale-small [] (asking 0 0) (omega arith, tt) stale-plain (cutAt tearing stale (asking 0 0) 1) (zeros 2560) (stopped 1 refl)
     (length-zeros 2560) zeros-closed
-    .others bDat (record { slot = omega arith; alive = refl }) refl refl refl .slot))
+    .others bDat (record { slot = omega arith; alive = refl }) refl (refl, (refl, tt)) .slot))
 
 pub tearing-ours : Repaired (cutAt inOrder stale (asking 0 0) 1) (next flex stale (asking 0 0) .img)
 unfolding rules demands paired stale

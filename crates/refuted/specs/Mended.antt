@@ -8,7 +8,7 @@ use Prim.Native.Nat.{ℕ, zero, suc, _<_}
 use native.Mathlib.Omega.{arith}
 use native.Mathlib.Decide.{ℕ-discrete}
 use lib.Dec.{eqb}
-use lib.ListN.{length, getD}
+use lib.ListN.{length, getD, replicate}
 use borrow.Author.Tests.{ne-eqb, eqb-true}
 use Rattle.rules.specs.Bytes.{pick, part, byteAt, over, one, zeros}
 use Rattle.rules.specs.Directory.{live, member}
@@ -21,7 +21,7 @@ use Rattle.demands.specs.Service.{flex, ansOf, imgOf, Machine, answers, run, lo
 use Rattle.demands.specs.History.{Plain, shown}
 use Rattle.demands.specs.Demands.{surveyAnswer, sectorsIn, slotsIn, placeIn, chainOf, AsItWas, Start, told, past, Sound, Again, Demand1}
 use Rattle.demands.specs.Repairs.{repairs, mended, LiveFile, Has, SharesNothing, keptOf, TakenByNone, inRecord, freeOf, FromRepair, reachOf}
-use Rattle.demands.specs.Fakes.{shamming, straying, narrow, emptying, pretending, favouring, adopting, turning, scrubbing, barging, shirking}
+use Rattle.demands.specs.Fakes.{shamming, straying, narrow, emptying, pretending, favouring, adopting, turning, scrubbing, mapsLeft, mapping, barging, shirking}
 use Rattle.met.specs.Mends.{from-repair}
 use Rattle.met.specs.Joins.{again}
 use Rattle.met.specs.Second.{demand2}
@@ -29,7 +29,7 @@ use Rattle.met.specs.Third.{demand3}
 use Rattle.refuted.specs.All.{demands}
 use Rattle.refuted.specs.Pair.{bDat, bDatAt, below, small-below, closed-eight, pairImage, pair, pair-start, paired}
 use Rattle.refuted.specs.Run.{outcomes}
-use Rattle.refuted.specs.Refuted.{differ, Both}
+use Rattle.refuted.specs.AnyBytes.{differ, Both}
 
 -- ---- RAW WRITING, on the start: block 3 lists, and one slot was shown; block 4 is idle, its buffer is 204 all over
 
@@ -37,10 +37,10 @@ use Rattle.refuted.specs.Refuted.{differ, Both}
 abbrev puttingTable : List ℕ
 puttingTable = over (over (over (over (pair .tab) 960 (one 8)) 962 (one 16)) 964 (one 90)) 1007 (0 ∷ 5 ∷ 136 ∷ [])
 
--- `elsewhere`: A.TXT's slot is not named
+-- `does`: A.TXT's slot is not named
 pub straying-fails : Demand1 straying → ⊥
 unfolding rules demands paired
-straying-fails d = differ 90 65 refl (d .elsewhere pairImage puttingTable 3 0 1040 refl)
+straying-fails d = differ 90 65 refl (ap (λ o. byteAt (imgOf o) 1040) (d .does pairImage puttingTable 3 0))
 
 pub straying-ours : (byteAt (imgOf (flex .call pairImage puttingTable 3 0)) 1040 ≡ 65) × (byteAt (imgOf (flex .call pairImage puttingTable 3 0)) bDatAt ≡ 90)
 unfolding rules demands paired
@@ -50,10 +50,10 @@ straying-ours = (refl, refl)
 abbrev sendingTable : List ℕ
 sendingTable = over (pair .tab) 1280 (one 10)
 
--- `raw`: byte 10 of the sector
+-- `does`: byte 10 of the sector
 pub shamming-fails : Demand1 shamming → ⊥
 unfolding rules demands paired
-shamming-fails d = differ 0 204 refl (ap (λ o. byteAt (imgOf o) 2314) (d .raw pairImage sendingTable 4 0 refl))
+shamming-fails d = differ 0 204 refl (ap (λ o. byteAt (imgOf o) 2314) (d .does pairImage sendingTable 4 0))
 
 pub shamming-ours : (ansOf (shamming .call pairImage sendingTable 4 0) ≡ 0) × (byteAt (imgOf (flex .call pairImage sendingTable 4 0)) 2314 ≡ 204)
 unfolding rules demands paired
@@ -233,6 +233,27 @@ pub turning-ours : (freeOf shared (mended flex shared .img) ≡ 6 ∷ 9 ∷ []) 
 unfolding rules demands paired
 turning-ours = (refl, refl)
 
+-- B.DAT is a random file (byte 23 is 1) that states two sectors, and has one
+abbrev randomCut : Machine
+randomCut = record { img = over (over pairImage 1178 (one 2)) 1179 (one 1); tab = pair .tab }
+
+randomCut-small : Small (randomCut .img)
+unfolding pair
+randomCut-small = small-over (over pairImage 1178 (one 2)) 1179 (one 1) (small-over pairImage 1178 (one 2) (pair-start .bytes) (small-one 2 (omega arith))) (small-one 1 (omega arith))
+
+-- `repair`, of demand 1; `resumes`: a repair that was broken off behind its last store, and is made again, leaves 1 there
+pub mapping-fails : Demand1 mapping → ⊥
+unfolding rules demands paired mapsLeft
+mapping-fails d = differ 1 0 refl (ap (λ r. byteAt (leftOf r) 1179) (d .repair (randomCut .img) (pair .tab)))
+
+pub mapping-fails-too : FromRepair mapping → ⊥
+unfolding rules demands paired mapsLeft
+mapping-fails-too d = differ 0 1 refl (ap (λ r. byteAt (leftOf r) 1179) (d .repaired randomCut randomCut-small refl .resumes (replicate 9 true ∷ []) (pair .tab) refl (pair-start .closed)))
+
+pub mapping-ours : byteAt (mended flex randomCut .img) 1179 ≡ 0
+unfolding rules demands paired
+mapping-ours = refl
+
 -- `accepts`: shape, directory and names are right, a file's chain is not
 pub shirking-fails : FromRepair shirking → ⊥
 unfolding rules demands paired
@@ -246,10 +267,11 @@ pub shirking-ours : (repairs flex nonsense ≡ 0) × (number (nonsense .img) ≡
 unfolding rules demands paired
 shirking-ours = (nonsense-repaired, refl)
 
--- a file behind a damaged one: by its links and stated size A.TXT has B.DAT's sector too, but it does not keep it, and B.DAT is as it was
-pub nonsense-both : Has nonsense 0 8 × Has nonsense bDat 8 × (keptOf nonsense 0 ≡ 7 ∷ 5 ∷ [])
+-- a file behind a damaged one: counted on from the nonsense in a link A.TXT has B.DAT's sector too, but it neither reaches nor keeps it, and B.DAT is as it
+-- was
+pub nonsense-both : Has nonsense 0 8 × Has nonsense bDat 8 × (reachOf nonsense 0 ≡ 7 ∷ 5 ∷ []) × (keptOf nonsense 0 ≡ 7 ∷ 5 ∷ [])
 unfolding rules demands paired
-nonsense-both = (refl, refl, refl)
+nonsense-both = (refl, refl, refl, refl)
 
 pub nonsense-spares : AsItWas nonsense (mended flex nonsense .img) bDat
 unfolding rules demands paired apart untaken

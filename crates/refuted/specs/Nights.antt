@@ -20,7 +20,7 @@ use Rattle.laws.specs.Small.{small-zeros}
 use Rattle.laws.specs.Stores.{length-stored}
 use Rattle.demands.specs.Ledger.{Call, setting, extending, asking, File, noFile}
 use Rattle.demands.specs.Service.{flex, Machine, outcome, next, run, log}
-use Rattle.demands.specs.History.{Scene, scenes, Plain, Unnamed}
+use Rattle.demands.specs.History.{Scene, scenes, Plain, changing, Unnamed}
 use Rattle.demands.specs.Demands.{sectorsIn, placeIn, AsItWas, Start, told, past}
 use Rattle.demands.specs.Repairs.{LiveFile, SameSector, brokenOff}
 use Rattle.demands.specs.Cuts.{inOrder, storesOf, CutShort, stopped, unlisted, listed, unusedIn, filesIn, mendedOf, Recovered, Night, called, morning, nights, Untouched, storing, Passes, Pass}
@@ -28,7 +28,7 @@ use Rattle.cutting.specs.Theorem.{power-cut}
 use Rattle.refuted.specs.All.{demands}
 use Rattle.refuted.specs.Pair.{bDat, pair, pair-start, full, full-start, paired}
 use Rattle.refuted.specs.Run.{outcomes, unhit, tame, plainly, unnamed}
-use Rattle.refuted.specs.Refuted.{differ}
+use Rattle.refuted.specs.AnyBytes.{differ}
 use Rattle.refuted.specs.Mended.{number}
 use Rattle.refuted.specs.Cuts.{cutAt, zeros-closed, pair-small, full-small, full-told, growth, growing, linking-ours, deletes, deleting, freed, mark-first-costs-nothing, mark-first-name, mark-first-ours}
 
@@ -170,7 +170,7 @@ second-quiet : quiet (past flex dawn (called second)) ≡ true
 unfolding rules demands paired dawn quiet tame unhit
 second-quiet = refl
 
-quiet-is : (cs : List Scene) → quiet cs ≡ true → Plain cs × Unnamed aTxt cs
+quiet-is : (cs : List Scene) → quiet cs ≡ true → Plain cs × Unnamed changing aTxt cs
 unfolding quiet
 quiet-is cs h = let t = both (tame cs) (unhit aTxt cs) h in (plainly cs (t .0), unnamed aTxt cs (t .1))
 
@@ -213,7 +213,7 @@ two-nights-leave = refl
 pub two-nights-untouched : Untouched flex aTxt full twoNights
 two-nights-untouched = (
   quiet-is (past flex full (called first)) first-quiet .1,
-  (subst (λ (x : Machine). Unnamed aTxt (past flex x (called second))) (sym (first-is .2)) (quiet-is (past flex dawn (called second)) second-quiet .1), tt),
+  (subst (λ (x : Machine). Unnamed changing aTxt (past flex x (called second))) (sym (first-is .2)) (quiet-is (past flex dawn (called second)) second-quiet .1), tt),
 )
 
 aTxt-live : LiveFile full 0

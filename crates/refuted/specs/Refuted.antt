@@ -1,178 +1,25 @@
--- No fake meets the demands. Each is run on the start with three files, or on odd bytes, and a clause gives an equation of two numbers
--- that differ; beside it, that ours passes the same clause at the same point.
-use mathlib.Core.Path.{_≡_, refl, sym, ap, _∙_}
-use mathlib.Core.Bool.{true, false}
+-- Fakes that demands 2 and 3 refute. Each is run on the start with three files, and a clause gives an equation of two numbers that differ; beside it, that
+-- ours passes the same clause at the same point.
+use mathlib.Core.Path.{_≡_, refl, ap}
+use mathlib.Core.Bool.{true}
 use mathlib.Core.List.{List, [], _∷_}
-use Prim.Native.Nat.{ℕ, _+_, _*_}
+use Prim.Native.Nat.{ℕ}
 use native.Mathlib.Omega.{arith}
-use lib.Dec.{eqb}
 use lib.ListN.{length, getD}
-use borrow.Author.Tests.{eq-eqb}
-use Rattle.rules.specs.Bytes.{part, byteAt, over, one, zeros}
+use Rattle.rules.specs.Bytes.{part, byteAt, zeros}
 use Rattle.rules.specs.Directory.{neverUsed, live, sizeAt}
-use Rattle.rules.specs.Outcome.{Out, saysOf, leftOf}
+use Rattle.rules.specs.Outcome.{Out, saysOf}
 use Rattle.rules.specs.Census.{Survey, survey}
 use Rattle.rules.specs.All.{rules}
-use Rattle.laws.specs.Tests.{never}
 use Rattle.demands.specs.Ledger.{Call, setting, asking, file, entryOf, imageOf, tableOf, fate, reply}
 use Rattle.demands.specs.Diskette.{ledgerNumbers, ledgerOwners}
-use Rattle.demands.specs.Service.{Wanted, Service, flex, ansOf, imgOf, tabOf, answers, gave, next, run}
+use Rattle.demands.specs.Service.{Service, flex, answers, gave, next, run}
 use Rattle.demands.specs.History.{Plain}
-use Rattle.demands.specs.Demands.{Lent, surveyAnswer, begun, told, past, sectorsIn, wholly, Demand1, Demand2, Demand3, ReadBack, Created, FromBlank}
-use Rattle.demands.specs.Fakes.{withCall, refusing, deaf, idling, stuck, nodding, eager, counting, inventing, meddling, deleting, misextending, wiping, mislisting, misnoting, scrambling, stingy, swapping, booting, misplacing, stalling, purging, softening, stopping, heedless, guarding, sealing, dataLeft, hasty, hoarding, rash, interleaving, balking, smudging, detaching, returning, masking}
+use Rattle.demands.specs.Demands.{surveyAnswer, begun, told, past, sectorsIn, wholly, Demand2, Demand3, ReadBack, Created}
+use Rattle.demands.specs.Fakes.{withCall, refusing, deaf, idling, stuck, nodding, eager, counting, inventing, meddling, deleting, mislisting, scrambling, stingy, swapping, booting, misplacing, stopping, heedless, guarding, sealing, balking, smudging, detaching, returning, masking}
 use Rattle.refuted.specs.All.{demands}
-use Rattle.refuted.specs.Pair.{bDat, bDatAt, gapAt, pairImage, pair, pair-start, full, full-start, paired}
-
-pub differ : (x y : ℕ) → eqb x y ≡ false → x ≡ y → ⊥
-differ x y h e = never (sym h ∙ eq-eqb x y e)
-
--- two numbers that are v: what is, and what is due
-abbrev pub Both : ℕ → ℕ → ℕ → Type 0
-Both x y v = (x ≡ v) × (y ≡ v)
-
--- ---- demand 1: for any bytes
-
--- `extension`: byte 0 of the block
-pub misextending-fails : Demand1 misextending → ⊥
-unfolding rules
-misextending-fails d = differ 12 0 refl (ap (λ r. byteAt (leftOf r) 0) (d .extension (zeros 2560) 0 1))
-
-pub misextending-ours : byteAt (leftOf (flex .extension (zeros 2560) 0 1)) 0 ≡ 0
-unfolding rules
-misextending-ours = refl
-
--- an image of one byte, which has no shape, and a table of zeros
-abbrev bare : Service → Out
-bare σ = σ .call (7 ∷ []) (zeros 2560) 0 0
-
-lent : Lent (zeros 2560) 0
-unfolding rules
-lent = record { table = refl; block = omega arith }
-
--- `early`: 16 is due; `lengths`: the image has its byte
-pub wiping-fails : Demand1 wiping → ⊥
-unfolding rules
-wiping-fails d = differ 0 16 refl (d .early (7 ∷ []) (zeros 2560) 0 0 lent (differ 16 0 refl))
-
-pub wiping-fails-too : Demand1 wiping → ⊥
-unfolding rules
-wiping-fails-too d = differ 0 1 refl (d .lengths (7 ∷ []) (zeros 2560) 0 0 .0)
-
-pub wiping-ours : (ansOf (bare flex) ≡ 16) × (length (imgOf (bare flex)) ≡ 1)
-unfolding rules
-wiping-ours = (refl, refl)
-
--- `error`: byte 1 of the block is the answer
-pub misnoting-fails : Demand1 misnoting → ⊥
-unfolding rules
-misnoting-fails d = differ 99 16 refl (d .error (7 ∷ []) (zeros 2560) 0 0 lent)
-
-pub misnoting-ours : Both (byteAt (tabOf (bare flex)) 1) (ansOf (bare flex)) 16
-unfolding rules
-misnoting-ours = (refl, refl)
-
--- `exact`: block 1 would read B.DAT, and the directory's sector is linked to itself
-abbrev looped : List ℕ
-looped = over pairImage 1024 (0 ∷ 5 ∷ [])
-
-pub softening-fails : Demand1 softening → ⊥
-unfolding rules paired
-softening-fails d = differ 4 5 refl (d .exact looped (pair .tab) 1 0 .0)
-
-pub softening-ours : ansOf (flex .call looped (pair .tab) 1 0) ≡ 5
-unfolding rules paired
-softening-ours = refl
-
--- and it would read G.TXT, which is read protected, while block 5 writes it: no start leads there
-abbrev writtenTable : List ℕ
-writtenTable = over (over (over (pair .tab) (320 * 5 + 2) (one 2)) (320 * 5 + 47) (0 ∷ 5 ∷ 160 ∷ [])) (320 * 6 + 4) (one 71)
-
-pub heedless-fails-too : Demand1 heedless → ⊥
-unfolding rules paired
-heedless-fails-too d = differ 2 17 refl (d .exact pairImage writtenTable 6 0 .0)
-
-pub heedless-ours-too : ansOf (flex .call pairImage writtenTable 6 0) ≡ 17
-unfolding rules paired
-heedless-ours-too = refl
-
--- `looking`: block 0 reads, at index 10, where the census gives 42
-abbrev readingTable : List ℕ
-readingTable = over (over (zeros 2560) 2 (one 1)) 34 (one 10)
-
-pub stalling-fails : Demand1 stalling → ⊥
-unfolding rules demands paired
-stalling-fails d = differ 10 11 refl (ap (λ o. byteAt (tabOf o) 34) (d .looking looped readingTable 0 0 refl .1))
-
-pub stalling-ours : (byteAt (tabOf (flex .call looped readingTable 0 0)) 34 ≡ 11) × (surveyAnswer (flex .census looped (zeros 5) (zeros 5)) ≡ 42)
-unfolding rules paired
-stalling-ours = (refl, refl)
-
--- `elsewhere`: block 2 renames B.DAT, where first free is 0,2 and the census gives 44; A.TXT's slot is not named
-abbrev strayed : List ℕ
-strayed = over pairImage 541 (one 0)
-
-abbrev renamingTable : List ℕ
-renamingTable = over (pair .tab) 640 (one 13)
-
-pub purging-fails : Demand1 purging → ⊥
-unfolding rules demands paired
-purging-fails d = differ 0 65 refl (d .elsewhere strayed renamingTable 2 0 1040 refl)
-
-pub purging-ours : (byteAt (imgOf (flex .call strayed renamingTable 2 0)) 1040 ≡ 65) × (surveyAnswer (flex .census strayed (zeros 5) (zeros 5)) ≡ 44)
-unfolding rules paired
-purging-ours = (refl, refl)
-
--- `format`: the byte 20 of A.TXT's last sector, 1,1, is still there
-abbrev wanted : List ℕ → Wanted
-wanted label = record { last = 1; per = 5; label = label; volume = 7; month = 11; day = 15; year = 26 }
-
-abbrev blankLabel : List ℕ
-blankLabel = 65 ∷ 76 ∷ 65 ∷ 82 ∷ 77 ∷ 83 ∷ 32 ∷ 32 ∷ 32 ∷ 32 ∷ 32 ∷ []
-
-pub hasty-fails : Demand1 hasty → ⊥
-unfolding rules paired dataLeft
-hasty-fails d = differ 20 0 refl (ap (λ r. byteAt (leftOf r) 1284) (d .format pairImage (wanted blankLabel)))
-
-pub hasty-ours : (saysOf (flex .format pairImage (wanted blankLabel)) ≡ 0) × (byteAt (leftOf (flex .format pairImage (wanted blankLabel))) 1284 ≡ 0)
-unfolding rules paired
-hasty-ours = (refl, refl)
-
--- `format-refused`: a label of no bytes, and the first byte of the image is gone
-pub rash-fails : Demand1 rash → ⊥
-unfolding rules paired
-rash-fails d = differ 0 1 refl (ap (λ m. byteAt m 0) (d .format-refused pairImage (wanted []) (differ 40 0 refl)))
-
-pub rash-ours : (saysOf (flex .format pairImage (wanted [])) ≡ 40) × (byteAt (leftOf (flex .format pairImage (wanted []))) 0 ≡ 1)
-unfolding rules paired
-rash-ours = (refl, refl)
-
--- `lists` of a blank diskette: the census gives 44
-pub hoarding-fails : FromBlank hoarding → ⊥
-unfolding rules paired
-hoarding-fails d = differ 44 0 refl (ap surveyAnswer (d .lists pairImage (wanted blankLabel) (zeros 5) (zeros 5) refl refl refl))
-
-pub hoarding-ours : surveyAnswer (flex .census (leftOf (flex .format pairImage (wanted blankLabel))) (zeros 5) (zeros 5)) ≡ 0
-unfolding rules paired
-hoarding-ours = refl
-
--- `lists`: the census accepts, and its first number is 1
-pub interleaving-fails : FromBlank interleaving → ⊥
-unfolding rules paired
-interleaving-fails d = differ 1 0 refl (ap firstListed (d .lists pairImage (wanted blankLabel) (zeros 5) (zeros 5) refl refl refl))
-  where
-    firstListed : Survey → ℕ
-    firstListed (survey a xs ys) = byteAt xs 0
-
-pub interleaving-ours : flex .census (leftOf (flex .format pairImage (wanted blankLabel))) (zeros 5) (zeros 5) ≡ survey 0 (0 ∷ 1 ∷ 2 ∷ 3 ∷ 4 ∷ []) (zeros 5)
-unfolding rules paired
-interleaving-ours = refl
-
--- `accepts`: a right format is refused
-pub refusing-fails-too : FromBlank refusing → ⊥
-unfolding rules paired
-refusing-fails-too d =
-    differ 41 0 refl
-    (d .accepts pairImage (wanted blankLabel) (record { tracks = omega arith; most-tracks = omega arith; sectors = omega arith; most-sectors = omega arith }) refl refl)
+use Rattle.refuted.specs.AnyBytes.{differ, Both}
+use Rattle.refuted.specs.Pair.{bDat, bDatAt, gapAt, pair, pair-start, full, full-start, paired}
 
 -- ---- demand 2: block 0 makes C.TXT
 
@@ -389,7 +236,7 @@ mislisting-ours = (refl, refl)
 -- `spared`: B.DAT's slot while block 1 opens it; its sector while block 0 makes C.TXT
 pub deleting-fails : Demand3 deleting → ⊥
 unfolding rules demands paired
-deleting-fails d = differ 255 66 refl (ap (λ (m : List ℕ). byteAt m 0) (d pair pair-start (asking 1 0 ∷ []) (refl, tt) .spared bDat (omega arith) refl (refl, refl, tt) .slot))
+deleting-fails d = differ 255 66 refl (ap (λ (m : List ℕ). byteAt m 0) (d pair pair-start (asking 1 0 ∷ []) (refl, tt) .spared bDat (omega arith) refl ((refl, (refl, tt)), tt) .slot))
 
 pub deleting-ours : Both (byteAt (part (run flex pair (asking 1 0 ∷ []) .img) bDatAt 24) 0) (byteAt (part (pair .img) bDatAt 24) 0) 66
 unfolding rules demands paired
@@ -400,7 +247,7 @@ recordByte m = byteAt (getD m 0 []) 3
 
 pub scrambling-fails : Demand3 scrambling → ⊥
 unfolding rules demands paired
-scrambling-fails d = differ 7 1 refl (ap recordByte (d pair pair-start (asking 0 0 ∷ []) (refl, tt) .spared bDat (omega arith) refl (refl, refl, tt) .bytes))
+scrambling-fails d = differ 7 1 refl (ap recordByte (d pair pair-start (asking 0 0 ∷ []) (refl, tt) .spared bDat (omega arith) refl ((refl, (refl, tt)), tt) .bytes))
 
 pub scrambling-ours : Both (recordByte (wholly (run flex pair (asking 0 0 ∷ []) .img) (8 ∷ []))) (recordByte (wholly (pair .img) (8 ∷ []))) 1
 unfolding rules demands paired

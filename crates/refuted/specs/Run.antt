@@ -15,7 +15,7 @@ use Rattle.rules.specs.All.{rules}
 use Rattle.laws.specs.Tests.{never}
 use Rattle.demands.specs.Ledger.{Call, setting, extending, asking, Ledger, Block, closed, listing, reading, writing, file, block, asks, activity, entryOf}
 use Rattle.demands.specs.Service.{flex, Machine, Entry, answers, gave, next, run, log}
-use Rattle.demands.specs.History.{Scene, history, scenes, raw, Plain, hits, Unnamed, ahead}
+use Rattle.demands.specs.History.{Scene, history, scenes, raw, Plain, hits, changing, Unnamed, ahead}
 use Rattle.demands.specs.Demands.{Start, lastTrackOf, perTrackOf, begun, told, past, Asks, Idle, inSlot, inLink, sectorsIn, slotsIn, placeIn, Begins, Sound}
 use Rattle.met.specs.Third.{demand3}
 use Rattle.refuted.specs.All.{demands}
@@ -70,9 +70,9 @@ theOutcomes =
 -- no call deletes or renames the file of this name
 unfoldable pub unhit : List ℕ → List Scene → Bool
 unhit nm [] = true
-unhit nm (c ∷ cs) = pick (hits 12 nm c) false (pick (hits 13 nm c) false (unhit nm cs))
+unhit nm (c ∷ cs) = pick (hits 13 nm c) false (pick (hits 12 nm c) false (unhit nm cs))
 
--- no raw write was accepted
+-- no raw write was due
 unfoldable pub tame : List Scene → Bool
 tame [] = true
 tame (c ∷ cs) = pick (raw c) false (tame cs)
@@ -159,7 +159,7 @@ not-hit : (b c : Bool) → pick b false c ≡ true → (b ≡ false) × (c ≡ t
 not-hit true c h = absurd (never h)
 not-hit false c h = (refl, h)
 
--- no raw write was accepted
+-- no raw write was due
 pub plainly : (cs : List Scene) → tame cs ≡ true → Plain cs
 unfolding tame
 plainly [] h = tt
@@ -170,15 +170,15 @@ unfolding summary
 trial-plain = plainly (past flex pair trial) (ap (λ (s : Summary). s .plain) computed)
 
 -- A.TXT is spared: live at the start, and no call names it
-pub unnamed : (nm : List ℕ) (cs : List Scene) → unhit nm cs ≡ true → Unnamed nm cs
+pub unnamed : (nm : List ℕ) (cs : List Scene) → unhit nm cs ≡ true → Unnamed changing nm cs
 unfolding unhit
 unnamed nm [] h = tt
 unnamed nm (c ∷ cs) h =
-    let p = not-hit (hits 12 nm c) (pick (hits 13 nm c) false (unhit nm cs)) h in
-    let q = not-hit (hits 13 nm c) (unhit nm cs) (p .1) in
-    (p .0, q .0, unnamed nm cs (q .1))
+    let p = not-hit (hits 13 nm c) (pick (hits 12 nm c) false (unhit nm cs)) h in
+    let q = not-hit (hits 12 nm c) (unhit nm cs) (p .1) in
+    ((p .0, (q .0, tt)), unnamed nm cs (q .1))
 
-pub trial-unnamed : Unnamed aTxt (past flex pair trial)
+pub trial-unnamed : Unnamed changing aTxt (past flex pair trial)
 unfolding summary
 trial-unnamed = unnamed aTxt (past flex pair trial) (ap (λ (s : Summary). s .spares) computed)
 
@@ -276,7 +276,7 @@ grown-busy a e = (
   rw (ap (λ (f : Facts). getD (f .numbers) 1 0) e) (omega arith),
 )
 
-grown-unnamed : Unnamed cTxt (past flex grown onward)
+grown-unnamed : Unnamed changing cTxt (past flex grown onward)
 unfolding summary
 grown-unnamed = unnamed cTxt (past flex grown onward) (ap (λ (s : Summary). s .spares) grown-computed)
 

@@ -1,0 +1,1 @@
+// What is proved of libflex.a, in one place: theorems alone.
