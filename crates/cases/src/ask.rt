@@ -8,7 +8,7 @@ use crate::say;
 use crate::say::Run;
 
 // The eleven bytes of a name preset from an offset on.
-pub fn name(table: &mut [u8], line: &[u8], offset: u8) {
+pub(crate) fn name(table: &mut [u8], line: &[u8], offset: u8) {
     let fcb = number(line, 0) as usize;
     let word = behind(line, 0, b' ');
     let from = behind(line, word, b' ');
@@ -27,14 +27,14 @@ pub fn name(table: &mut [u8], line: &[u8], offset: u8) {
     say::answer(answer);
 }
 
-pub fn preset(table: &mut [u8], line: &[u8]) {
+pub(crate) fn preset(table: &mut [u8], line: &[u8]) {
     let fcb = number(line, 0) as usize;
     let offset = number(line, 1) as usize;
     let answer = blocks::preset(table, fcb, offset, byte(line, 2));
     say::answer(answer);
 }
 
-pub fn extension(table: &mut [u8], line: &[u8]) {
+pub(crate) fn extension(table: &mut [u8], line: &[u8]) {
     let fcb = number(line, 0) as usize;
     let code = number(line, 1) as usize;
     let answer = blocks::default_extension(table, fcb, code);
@@ -42,7 +42,7 @@ pub fn extension(table: &mut [u8], line: &[u8]) {
 }
 
 // The function that is called next.
-pub fn function(table: &mut [u8], line: &[u8], code: u8) {
+pub(crate) fn function(table: &mut [u8], line: &[u8], code: u8) {
     blocks::preset(table, number(line, 0) as usize, 0, code);
 }
 
@@ -65,7 +65,7 @@ fn say_function(code: u8) {
     }
 }
 
-pub fn call(image: &mut [u8], table: &mut [u8], line: &[u8]) {
+pub(crate) fn call(image: &mut [u8], table: &mut [u8], line: &[u8]) {
     let fcb = number(line, 0) as usize;
     let reply = fms::call(image, table, fcb, byte(line, 2));
     say::text(b" -> ");
@@ -102,7 +102,7 @@ fn send(image: &mut [u8], table: &mut [u8], fcb: usize, n: usize, byte: u8) -> S
     }
 }
 
-pub fn write(image: &mut [u8], table: &mut [u8], line: &[u8]) {
+pub(crate) fn write(image: &mut [u8], table: &mut [u8], line: &[u8]) {
     let fcb = number(line, 0) as usize;
     let n = number(line, 1) as usize;
     let sent = send(image, table, fcb, n, byte(line, 2));
@@ -140,7 +140,7 @@ fn fetch(image: &mut [u8], table: &mut [u8], fcb: usize, n: usize) -> u8 {
     0
 }
 
-pub fn read(image: &mut [u8], table: &mut [u8], line: &[u8]) {
+pub(crate) fn read(image: &mut [u8], table: &mut [u8], line: &[u8]) {
     let fcb = number(line, 0) as usize;
     say::text(b" ->");
     let n = number(line, 1) as usize;
@@ -164,7 +164,7 @@ fn tell_in(text: &mut [u8], n: u32, number: u8) {
     tell(&mut text[..k], number);
 }
 
-pub fn text(line: &[u8]) {
+pub(crate) fn text(line: &[u8]) {
     let mut dots = [46u8; 32];
     tell_in(&mut dots, number(line, 0), byte(line, 1));
 }
@@ -185,7 +185,7 @@ fn shape_in(image: &mut [u8], line: &[u8], letters: &mut [u8], n: u32) {
     say::answer(answer);
 }
 
-pub fn shape(image: &mut [u8], line: &[u8]) {
+pub(crate) fn shape(image: &mut [u8], line: &[u8]) {
     let mut letters = *b"ABCDEFGHIJKLMNOPQRSTUVWXYZABCDEF";
     shape_in(image, line, &mut letters, number(line, 2));
 }

@@ -4,7 +4,7 @@ ghost use lib.ListN.{length};
 use cells::get_in;
 
 // The first place from `from` on that has this byte, or the end.
-pub fn find(text: &[u8], from: usize, byte: u8) -> usize
+pub(crate) fn find(text: &[u8], from: usize, byte: u8) -> usize
     ensures { λ r. ⌜ (from ≤ r) × (r ≤ from + (length (now (text .entry)) - from)) ⌝ }
 {
     let mut at = from;
@@ -18,7 +18,7 @@ pub fn find(text: &[u8], from: usize, byte: u8) -> usize
 }
 
 // The place behind the first byte of this kind, or the end.
-pub fn behind(text: &[u8], from: usize, byte: u8) -> usize {
+pub(crate) fn behind(text: &[u8], from: usize, byte: u8) -> usize {
     let at = find(text, from, byte);
     if at < text.len() {
         return at + 1;
@@ -90,13 +90,13 @@ fn scanned(s: Scan, byte: u8) -> Scan {
     s
 }
 
-pub enum Found {
+pub(crate) enum Found {
     Number(u32),
     Nothing,
 }
 
 // The number with this index in a line, counted from 0.
-pub fn number_at(line: &[u8], index: usize) -> Found {
+pub(crate) fn number_at(line: &[u8], index: usize) -> Found {
     let mut s = Scan {
         ahead: index,
         value: 0,
@@ -120,7 +120,7 @@ pub fn number_at(line: &[u8], index: usize) -> Found {
 }
 
 // The number with this index; 0 where the line has fewer.
-pub fn number(line: &[u8], index: usize) -> u32 {
+pub(crate) fn number(line: &[u8], index: usize) -> u32 {
     match number_at(line, index) {
         Found::Number(n) => n,
         Found::Nothing => 0,
@@ -128,13 +128,13 @@ pub fn number(line: &[u8], index: usize) -> u32 {
 }
 
 // The number with this index as a byte.
-pub fn byte(line: &[u8], index: usize) -> u8 {
+pub(crate) fn byte(line: &[u8], index: usize) -> u8 {
     (number(line, index) % 256) as u8
 }
 
 // Byte i of the eleven of a name that begins at `from`, with its dot at `dot`: eight of the name, three of the extension, zeros
 // behind each.
-pub fn name_byte(line: &[u8], from: usize, dot: usize, i: usize) -> u8 {
+pub(crate) fn name_byte(line: &[u8], from: usize, dot: usize, i: usize) -> u8 {
     if i >= 8 {
         return get_in(line, dot, i - 7);
     }

@@ -35,11 +35,11 @@ fn at(s: &mut [u8], from: usize, line: &[u8], index: usize)
     say::bytes(s, from, number(line, index) as usize);
 }
 
-pub fn image(image: &mut [u8], line: &[u8]) {
+pub(crate) fn image(image: &mut [u8], line: &[u8]) {
     at(image, number(line, 0) as usize, line, 1);
 }
 
-pub fn block(table: &mut [u8], line: &[u8]) {
+pub(crate) fn block(table: &mut [u8], line: &[u8]) {
     let block = number(line, 0) as usize;
     let offset = number(line, 1) as usize;
     at(table, 320 * block + offset, line, 2);
@@ -74,7 +74,7 @@ fn compared(is_image: bool, at: usize, run: Run, now: u8, before: u8) -> Run {
 }
 
 // The bytes of s that are not what they were.
-pub fn changes(is_image: bool, s: &[u8], before: &[u8]) {
+pub(crate) fn changes(is_image: bool, s: &[u8], before: &[u8]) {
     let mut run = say::no_run();
     let mut i = 0;
     while i < s.len() {

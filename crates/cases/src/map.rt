@@ -65,7 +65,7 @@ fn survey_in(image: &[u8], sectors: &mut [u16], n: u32, owners: &mut [u16], k: u
 }
 
 // The census into outputs of n and k entries, 7 before.
-pub fn map(image: &[u8], n: u32, k: u32) {
+pub(crate) fn map(image: &[u8], n: u32, k: u32) {
     let mut sectors = [7u16; 64];
     let mut owners = [7u16; 64];
     survey_in(image, &mut sectors, n, &mut owners, k);

@@ -1,27 +1,27 @@
 // What is written out: texts, numbers, bytes in a row.
 use cells::get_in;
 
-pub fn text(t: &[u8]) {
+pub(crate) fn text(t: &[u8]) {
     io::write_all(1, t);
 }
 
-pub fn number(n: usize) {
+pub(crate) fn number(n: usize) {
     io::print_decimal(1, n as u64);
 }
 
 // The answer of a command that gives nothing else.
-pub fn answer(n: u8) {
+pub(crate) fn answer(n: u8) {
     text(b" -> ");
     number(n as usize);
 }
 
 // Equal bytes in a row, so many times.
-pub struct Run {
-    pub byte: u8,
-    pub times: usize,
+pub(crate) struct Run {
+    pub(crate) byte: u8,
+    pub(crate) times: usize,
 }
 
-pub fn no_run() -> Run {
+pub(crate) fn no_run() -> Run {
     Run { byte: 0, times: 0 }
 }
 
@@ -35,7 +35,7 @@ fn repeated(byte: u8, times: usize) {
 }
 
 // A run that is over: its bytes, or where it is long its byte and how many.
-pub fn end_run(r: Run) {
+pub(crate) fn end_run(r: Run) {
     let byte = r.byte;
     let times = r.times;
     if times < 8 {
@@ -49,7 +49,7 @@ pub fn end_run(r: Run) {
 }
 
 // One byte more: in the run, or the run is over and the byte begins the next.
-pub fn joined(r: Run, byte: u8) -> Run {
+pub(crate) fn joined(r: Run, byte: u8) -> Run {
     let times = r.times;
     if times < 65536 {
         if byte == r.byte {
@@ -64,7 +64,7 @@ pub fn joined(r: Run, byte: u8) -> Run {
 }
 
 // n bytes from a place on.
-pub fn bytes(s: &[u8], from: usize, n: usize) {
+pub(crate) fn bytes(s: &[u8], from: usize, n: usize) {
     text(b" ->");
     let mut run = no_run();
     let mut i = 0;
