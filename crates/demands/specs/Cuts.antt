@@ -6,7 +6,7 @@ use mathlib.Core.List.{List, [], _∷_, _++_}
 use Prim.Native.Nat.{ℕ, _+_, _-_, _*_, _/_, _≤_, _<_}
 use lib.Dec.{eqb, ltb}
 use lib.ListN.{length, getD, take}
-use Rattle.rules.specs.Bytes.{pick, within, byteAt, part, zeros}
+use Rattle.rules.specs.Bytes.{pick, _or_, within, byteAt, part, zeros}
 use Rattle.rules.specs.Stores.{Store, stored}
 use Rattle.rules.specs.Image.{lastTrack, perTrack}
 use Rattle.rules.specs.Directory.{live, member, firstSlotOf, lastSector}
@@ -97,7 +97,7 @@ pub record Recovered (σ : Service) (y : Machine) (a : Ledger) (most : ℕ) (m t
   pub whole : (s : ℕ) → LiveFile y s → AsItWas y (mendedOf σ m tab) s
   -- so is what is neither a file's nor free: boot sectors, label, volume number, date, what stands before the slots. Every byte of track 0 and of the directory's
   -- sectors is as it was, outside of the information record's 29-34 and of the link of the directory's last sector
-  pub rest : (p : ℕ) → pick (ltb p (256 * perTrackOf y)) true (member (p / 256) (sectorsIn y (y .img))) ≡ true → within 541 546 p ≡ false
+  pub rest : (p : ℕ) → (ltb p (256 * perTrackOf y) or member (p / 256) (sectorsIn y (y .img))) ≡ true → within 541 546 p ≡ false
       → inLink (lastSector (y .img) (lastTrackOf y) (perTrackOf y)) p ≡ false → byteAt (mendedOf σ m tab) p ≡ byteAt (y .img) p
 
 -- ---- the call that was cut short

@@ -6,7 +6,7 @@ use mathlib.Core.List.{List, [], _∷_, _++_}
 use Prim.Native.Nat.{ℕ, zero, suc, _+_, _-_, _*_, _/_, _%_, _≤_, _<_}
 use lib.Dec.{eqb, ltb}
 use lib.ListN.{length, getD, drop}
-use Rattle.rules.specs.Bytes.{pick, within, byteAt, part, over, one, two, zeros}
+use Rattle.rules.specs.Bytes.{pick, _and_, _or_, within, byteAt, part, over, one, two, zeros}
 use Rattle.rules.specs.Image.{lastTrack, perTrack, index, isSector}
 use Rattle.rules.specs.Names.{legal}
 use Rattle.rules.specs.Directory.{live, member, directory, lastSector, slots, sizeAt}
@@ -40,12 +40,12 @@ due img tab f = answer (settled (checked img tab f (done 0 [] [])))
 -- "Bytes not named here stay": an accepted call of this code and activity names byte i of its block, beside byte 1
 unfoldable pub names : ℕ → ℕ → ℕ → Bool
 names code act i =
-    pick (eqb code 0) (pick (within 30 34 i) true (pick (within 64 319 i) true (pick (eqb act 2) (within 17 22 i) false)))
-    (pick (within 1 2 code) (pick (within 4 27 i) true (pick (within 30 35 i) true (pick (within 47 49 i) true (member i (0 ∷ 2 ∷ 59 ∷ [])))))
+    pick (eqb code 0) (within 30 34 i or within 64 319 i or eqb act 2 and within 17 22 i)
+    (pick (within 1 2 code) (within 4 27 i or within 30 35 i or within 47 49 i or member i (0 ∷ 2 ∷ 59 ∷ []))
     (pick (eqb code 4) (eqb i 2)
     (pick (eqb code 5) (member i (0 ∷ 30 ∷ 31 ∷ 34 ∷ []))
-    (pick (eqb code 6) (pick (within 47 49 i) true (eqb i 2))
-    (pick (eqb code 7) (pick (within 47 49 i) true (within 4 27 i))
+    (pick (eqb code 6) (within 47 49 i or eqb i 2)
+    (pick (eqb code 7) (within 47 49 i or within 4 27 i)
     (pick (writesRaw code) false
     (pick (eqb code 9) (within 64 319 i)
     (pick (eqb code 12) (within 4 27 i)
@@ -239,7 +239,7 @@ inLink k p = within (256 * k) (256 * k + 1) p
 -- p lies in one of these slots
 unfoldable pub inSlot : ℕ → List ℕ → Bool
 inSlot p [] = false
-inSlot p (o ∷ os) = pick (within o (o + 23) p) true (inSlot p os)
+inSlot p (o ∷ os) = within o (o + 23) p or inSlot p os
 
 -- the directory's sectors, and its slots, of an image of the start's shape; slot s of the start begins here
 abbrev pub sectorsIn : Machine → List ℕ → List ℕ
@@ -306,7 +306,7 @@ pub record Sound (σ : Service) (x : Machine) (cs : List Call) : Type 0 where
       × (part (next σ (run σ x cs) (asking n b) .tab) (320 * n + 64) 256 ≡ part (run σ x cs .img) (256 * index (perTrackOf x) (asks (told σ x cs) n b .position)) 256)
   -- every byte of track 0, and of the directory's sectors, stays, outside of the slots, of the information record's 29-34 and of the link of the
   -- directory's last sector; a free sector stays while it is free
-  pub stays : (p : ℕ) → pick (ltb p (256 * perTrackOf x)) true (member (p / 256) (sectorsIn x (x .img))) ≡ true → within 541 546 p ≡ false
+  pub stays : (p : ℕ) → (ltb p (256 * perTrackOf x) or member (p / 256) (sectorsIn x (x .img))) ≡ true → within 541 546 p ≡ false
       → inSlot p (slotsIn x (x .img)) ≡ false → inLink (lastSector (x .img) (lastTrackOf x) (perTrackOf x)) p ≡ false
       → byteAt (run σ x cs .img) p ≡ byteAt (x .img) p
   pub rests : (c : Call) → Plain (past σ x (cs ++ c ∷ [])) → (k : ℕ) → member k (told σ x cs .free) ≡ true

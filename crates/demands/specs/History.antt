@@ -6,7 +6,7 @@ use mathlib.Core.List.{List, [], _∷_, _++_}
 use Prim.Native.Nat.{ℕ, zero, suc, _+_, _-_, _*_}
 use lib.ListN.{length, getD, drop}
 use lib.Dec.{eqb, ltb}
-use Rattle.rules.specs.Bytes.{pick, part, one, same}
+use Rattle.rules.specs.Bytes.{pick, _and_, _or_, part, one, same}
 use Rattle.rules.specs.Stores.{put}
 use Rattle.rules.specs.Directory.{live, placeOf, member, slots}
 use Rattle.rules.specs.Block.{uses}
@@ -58,7 +58,7 @@ onCall (asking n b) e f = f n b
 
 -- it was a call of block n for this function
 abbrev pub calls : ℕ → ℕ → Scene → Bool
-calls n code c = onCall (c .made) false (λ m b. pick (eqb m n) (eqb (asks (c .before) m b .code) code) false)
+calls n code c = onCall (c .made) false (λ m b. eqb m n and eqb (asks (c .before) m b .code) code)
 
 -- every accepted call of block n was for one of these functions
 abbrev pub Only : ℕ → List ℕ → List Scene → Type 0
@@ -69,9 +69,8 @@ Only n codes (c ∷ cs) =
 -- it was accepted, and deletes or renames (function 12 or 13) the file of this name
 abbrev pub hits : ℕ → List ℕ → Scene → Bool
 hits code nm c =
-    pick (eqb (c .ans) 0)
-    (onCall (c .made) false (λ m b. pick (eqb (asks (c .before) m b .code) code) (same (asks (c .before) m b .name) nm) false))
-    false
+    eqb (c .ans) 0
+    and onCall (c .made) false (λ m b. eqb (asks (c .before) m b .code) code and same (asks (c .before) m b .name) nm)
 
 -- the file's name after the call, and after all of them
 abbrev pub nameAfter : List ℕ → Scene → List ℕ
@@ -104,7 +103,7 @@ Unnamed codes nm (c ∷ cs) = Misses codes nm c × Unnamed codes nm cs
 
 -- it is a raw write (function 8 or 10) that is due to be accepted: by the history, whatever a service answers
 abbrev pub raw : Scene → Bool
-raw c = onCall (c .made) false (λ m b. pick (writesRaw (asks (c .before) m b .code)) (eqb (reply (c .due)) 0) false)
+raw c = onCall (c .made) false (λ m b. writesRaw (asks (c .before) m b .code) and eqb (reply (c .due)) 0)
 
 -- PLAIN CALLS: no raw write is due. Of other lists demands 2 and 3 say nothing: they speak again from a start
 abbrev pub Plain : List Scene → Type 0
@@ -130,7 +129,7 @@ unfinished (writing s ub) = ub
 
 -- a byte can be stored: a sector is free, or the last one is unfinished
 abbrev pub room : Ledger → ℕ → Bool
-room a n = pick (ltb 0 (length (a .free))) true (ltb 0 (length (unfinished (block a n))))
+room a n = ltb 0 (length (a .free)) or ltb 0 (length (unfinished (block a n)))
 
 -- while there is room every byte of block n is accepted
 abbrev pub Accepts : ℕ → List Scene → Type 0

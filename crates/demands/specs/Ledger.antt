@@ -5,7 +5,7 @@ use mathlib.Core.List.{List, [], _∷_, _++_}
 use Prim.Native.Nat.{ℕ, zero, suc, _+_, _-_, _*_, _/_, _%_}
 use lib.ListN.{length, getD, set, drop}
 use lib.Dec.{eqb, ltb}
-use Rattle.rules.specs.Bytes.{pick, byteAt, wordAt, part, one, two, six, zeros, flat}
+use Rattle.rules.specs.Bytes.{pick, _and_, _or_, byteAt, wordAt, part, one, two, six, zeros, flat}
 use Rattle.rules.specs.Stores.{Store, store, stored, Put, put, puts}
 use Rattle.rules.specs.Outcome.{Effect, answer, onBlock}
 use Rattle.rules.specs.Image.{index, isSector, infoSector, infoFirst, adr}
@@ -31,7 +31,7 @@ blockOf (asking n b) = n
 
 -- 02, "Raw writing": functions 8 and 10 store what the caller has put into the block, whatever stands there
 abbrev pub writesRaw : ℕ → Bool
-writesRaw code = pick (eqb code 8) true (eqb code 10)
+writesRaw code = eqb code 8 or eqb code 10
 
 -- ---- what the ledger knows
 
@@ -199,13 +199,13 @@ activity (writing s ub) = 2
 abbrev pub holdsOpen : Bool → ℕ → Block → Bool
 holdsOpen readers s closed = false
 holdsOpen readers s (listing p) = false
-holdsOpen readers s (reading t j i) = pick readers (eqb t s) false
+holdsOpen readers s (reading t j i) = readers and eqb t s
 holdsOpen readers s (writing t ub) = eqb t s
 
 -- one of the first n blocks writes the slot, or reads it where readers count
 unfoldable pub busy : Bool → ℕ → List Block → ℕ → Bool
 busy readers s bs zero = false
-busy readers s bs (suc n) = pick (holdsOpen readers s (getD bs n closed)) true (busy readers s bs n)
+busy readers s bs (suc n) = holdsOpen readers s (getD bs n closed) or busy readers s bs n
 
 -- ---- changes
 

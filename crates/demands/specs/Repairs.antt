@@ -6,7 +6,7 @@ use mathlib.Core.List.{List, [], _∷_, _++_}
 use Prim.Native.Nat.{ℕ, _+_, _*_, _/_, _%_, _≤_, _<_}
 use lib.Dec.{ltb}
 use lib.ListN.{length, getD}
-use Rattle.rules.specs.Bytes.{pick, within, byteAt, part, flat}
+use Rattle.rules.specs.Bytes.{pick, _and_, _or_, within, byteAt, part, flat}
 use Rattle.rules.specs.Stores.{stored}
 use Rattle.rules.specs.Image.{shapeRight, lastTrack, perTrack, index, isData, linkOf}
 use Rattle.rules.specs.Directory.{live, member, directoryRight, startAt, sizeAt, lastOf}
@@ -71,7 +71,7 @@ pub record TakenByNone (x : Machine) (s : ℕ) : Type 0 where
 -- p lies in bytes 13-19 of one of these slots, which is live: start, end, size, and the place of "byte 23"
 unfoldable pub inRecord : List ℕ → ℕ → List ℕ → Bool
 inRecord img p [] = false
-inRecord img p (o ∷ os) = pick (pick (live img o) (within (o + 13) (o + 19) p) false) true (inRecord img p os)
+inRecord img p (o ∷ os) = live img o and within (o + 13) (o + 19) p or inRecord img p os
 
 -- there; the information record's 29-34; and, behind track 0, the link of a sector that is not the directory's
 abbrev pub mends : Machine → ℕ → Bool

@@ -1,10 +1,10 @@
 -- 01, "File control block": its fields, the table, blocks in use; the entries preset and default extension.
-use mathlib.Core.Bool.{Bool, true, false}
+use mathlib.Core.Bool.{Bool, false}
 use mathlib.Core.List.{List, [], _∷_}
 use Prim.Native.Nat.{ℕ, zero, suc, _+_, _*_}
 use lib.ListN.{length, getD}
 use lib.Dec.{eqb, ltb}
-use Rattle.rules.specs.Bytes.{pick, within, byteAt, wordAt, part, one, same}
+use Rattle.rules.specs.Bytes.{pick, _and_, _or_, within, byteAt, wordAt, part, one, same}
 use Rattle.rules.specs.Stores.{put}
 use Rattle.rules.specs.Outcome.{Effect, effect}
 
@@ -115,21 +115,21 @@ newNameIn tab f = part tab (f + newNameField) 11
 
 -- "activity is 0 or 16"
 unfoldable pub idle : ℕ → Bool
-idle act = pick (eqb act 0) true (eqb act 16)
+idle act = eqb act 0 or eqb act 16
 
 -- does a block of this activity count as using its place? One that writes does; one that reads only where readers count
 unfoldable pub counts : Bool → ℕ → Bool
-counts readers act = pick (eqb act 2) true (pick readers (eqb act 1) false)
+counts readers act = eqb act 2 or readers and eqb act 1
 
 -- "2 (an FCB of activity 2 has that place)", "2 (activity 1 or 2)": block n has the place
 unfoldable pub uses : Bool → List ℕ → List ℕ → ℕ → Bool
 uses readers tab place n =
-    pick (counts readers (activityIn tab (blockAt n))) (same (placeIn tab (blockAt n)) place) false
+    counts readers (activityIn tab (blockAt n)) and same (placeIn tab (blockAt n)) place
 
 -- one of the first n blocks has it
 unfoldable pub usedBelow : Bool → List ℕ → List ℕ → ℕ → Bool
 usedBelow readers tab place zero = false
-usedBelow readers tab place (suc n) = pick (uses readers tab place n) true (usedBelow readers tab place n)
+usedBelow readers tab place (suc n) = uses readers tab place n or usedBelow readers tab place n
 
 unfoldable pub inUse : Bool → List ℕ → List ℕ → Bool
 inUse readers tab place = usedBelow readers tab place blocks
@@ -144,9 +144,7 @@ onTable tab n e =
 -- "3-14, 25-27, 30-31, 53-63"; 02, "preset taking 15-24 and 64-319 too"
 unfoldable pub presettable : ℕ → Bool
 presettable i =
-    pick (within 3 27 i) true
-    (pick (within 30 31 i) true
-    (within 53 319 i))
+    within 3 27 i or within 30 31 i or within 53 319 i
 
 -- "Preset writes one byte: offset 0 always; .. if activity is 0 or 16. Otherwise 18, nothing changed."
 unfoldable pub presetIn : List ℕ → ℕ → ℕ → ℕ → Effect

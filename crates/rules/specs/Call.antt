@@ -1,9 +1,9 @@
 -- 01, "Numbers given back": the order of checks for every FMS call; the call.
-use mathlib.Core.Bool.{Bool, true}
+use mathlib.Core.Bool.{Bool}
 use mathlib.Core.List.{List}
 use Prim.Native.Nat.{ℕ}
 use lib.Dec.{eqb}
-use Rattle.rules.specs.Bytes.{pick, within}
+use Rattle.rules.specs.Bytes.{pick, _or_, within}
 use Rattle.rules.specs.Image.{lastTrack, perTrack, shapeRight}
 use Rattle.rules.specs.Outcome.{Outcome, unless, Effect, settled}
 use Rattle.rules.specs.Block.{blockAt, functionIn, activityIn, driveIn, idle, onTable}
@@ -13,15 +13,13 @@ use Rattle.rules.specs.Files.{openRead, openWrite, rewind, openDirectory
 -- "Function codes served at first: 0, 1, 2, 4, 5, 6, 7, 9, 12, 13."; 02, "functions 8 .. and 10"
 unfoldable pub served : ℕ → Bool
 served code =
-    pick (within 0 2 code) true
-    (pick (within 4 10 code) true
-    (within 12 13 code))
+    within 0 2 code or within 4 10 code or within 12 13 code
 
 -- "an activity the function doesn't name; function 0 takes 1 or 2, close 1, 2 or 16"; 5 takes 1, 7 and 8 take 16, all others 0 or 16
 unfoldable pub fits : ℕ → ℕ → Bool
 fits code act =
     pick (eqb code 0) (within 1 2 act)
-    (pick (eqb code 4) (pick (within 1 2 act) true (eqb act 16))
+    (pick (eqb code 4) (within 1 2 act or eqb act 16)
     (pick (eqb code 5) (eqb act 1)
     (pick (within 7 8 code) (eqb act 16)
     (idle act))))
