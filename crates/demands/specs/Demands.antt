@@ -33,9 +33,9 @@ pub record Lent (tab : List ℕ) (n : ℕ) : Type 0 where
   pub table : length tab ≡ 2560
   pub block : n < 8
 
--- "Order for every FMS call: .. 16 shape, 1, 16 drive, 18": the first that is due for the block that begins at f; 0 where none is
-abbrev pub due : List ℕ → List ℕ → ℕ → ℕ
-due img tab f = answer (settled (checked img tab f (done 0 [] [])))
+-- "Order for every FMS call: .. 16 shape, 1, 16 drive, 18": the first that refuses the block that begins at f; 0 where none does
+abbrev pub firstRefusal : List ℕ → List ℕ → ℕ → ℕ
+firstRefusal img tab f = answer (settled (checked img tab f (done 0 [] [])))
 
 -- "Bytes not named here stay": an accepted call of this code and activity names byte i of its block, beside byte 1
 unfoldable pub names : ℕ → ℕ → ℕ → Bool
@@ -55,7 +55,7 @@ names code act i =
 unfoldable pub looks : ℕ → ℕ → Bool
 looks code act = pick (eqb code 0) (eqb act 1) (pick (eqb code 4) (pick (eqb act 2) false true) (member code (1 ∷ 5 ∷ 6 ∷ 7 ∷ 9 ∷ [])))
 
--- what follows from the equations of demand 1, and is there because it is the user's words
+-- what follows from the equations of demand 1, below, and is there because it is the user's words
 pub record InWords (σ : Service) : Type 0 where
   -- format has three numbers and repair six, and their refusals change nothing
   pub format-stated : (img : List ℕ) (w : Wanted) → member (saysOf (σ .format img w)) formatNumbers ≡ true
@@ -67,7 +67,7 @@ pub record InWords (σ : Service) : Type 0 where
   -- "Numbers given back": one of the stated numbers; the one, and the byte, that the papers have for this call; 16, 1, 16, 18 / 13 before all else
   pub stated : (img tab : List ℕ) (n b : ℕ) → member (ansOf (σ .call img tab n b)) answerNumbers ≡ true
   pub exact : (img tab : List ℕ) (n b : ℕ) → (ansOf (σ .call img tab n b) ≡ answer (call img tab n b)) × (byteOf (σ .call img tab n b) ≡ given (call img tab n b))
-  pub early : (img tab : List ℕ) (n b : ℕ) → Lent tab n → due img tab (320 * n) ≢ 0 → ansOf (σ .call img tab n b) ≡ due img tab (320 * n)
+  pub early : (img tab : List ℕ) (n b : ℕ) → Lent tab n → firstRefusal img tab (320 * n) ≢ 0 → ansOf (σ .call img tab n b) ≡ firstRefusal img tab (320 * n)
   -- a refusal: byte 0, the same image, the same table but for byte 1 of the block
   pub refused : (img tab : List ℕ) (n b : ℕ) → Lent tab n → ansOf (σ .call img tab n b) ≢ 0
       → σ .call img tab n b ≡ out (ansOf (σ .call img tab n b)) 0 img (over tab (320 * n + 1) (one (ansOf (σ .call img tab n b))))
@@ -83,7 +83,7 @@ pub record InWords (σ : Service) : Type 0 where
   pub looking : (img tab : List ℕ) (n b : ℕ) → looks (functionIn tab (320 * n)) (activityIn tab (320 * n)) ≡ true → imgOf (σ .call img tab n b) ≡ img
 
 pub record Demand1 (σ : Service) : Type 0 where
-  -- "Each function does what the FLEX Programmer's Manual for the 6800 says, as made exact in document 01": whatever image, table, block and byte are, the
+  -- the user: "Each function does what the FLEX Programmer's Manual says, as made exact in document 01". Whatever image, table, block and byte are, the
   -- answer, the byte given, and every byte of image and table are the rules'
   pub does : (img tab : List ℕ) (n b : ℕ) → σ .call img tab n b ≡ flex .call img tab n b
   -- so do the other six
@@ -226,7 +226,7 @@ pub record ComesBack (σ : Service) (x : Machine) (cs : List Call) : Type 0 wher
       → fileNamed (nameOf (told σ x cs) n) (told σ x cs .slots) ≡ nowhere → slotForNew (told σ x cs) ≡ slot s
       → Created σ (lastTrackOf x) (perTrackOf x) (run σ x cs) (told σ x cs) n s b
 
--- whatever was called before, but for an accepted raw write
+-- whatever was called before, but for a raw write
 abbrev pub Demand2 : Service → Type 0
 Demand2 σ = (x : Machine) → Start x → (cs : List Call) → Plain (past σ x cs) → ComesBack σ x cs
 

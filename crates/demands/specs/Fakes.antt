@@ -6,7 +6,7 @@ use mathlib.Core.List.{List, [], _∷_, _++_}
 use Prim.Native.Nat.{ℕ, zero, suc, _+_, _-_, _*_, _%_}
 use lib.ListN.{length, take}
 use lib.Dec.{eqb, ltb}
-use Rattle.rules.specs.Bytes.{pick, byteAt, wordAt, part, over, one, two, zeros}
+use Rattle.rules.specs.Bytes.{pick, _and_, byteAt, wordAt, part, over, one, two, zeros}
 use Rattle.rules.specs.Image.{shapeRight, lastTrack, perTrack, index, adr, firstFree, lastFree, freeCount}
 use Rattle.rules.specs.Directory.{neverUsed, named, first, live, sizeAt, directory, lastSector, slots, find, vacancy, attributesAt}
 use Rattle.rules.specs.Stores.{Store, store, stored}
@@ -274,8 +274,7 @@ abbrev pub interleaving : Service
 interleaving = withFormat (λ img w.
     replyWith (λ new. over (over (over new 541 (1 ∷ 2 ∷ [])) (256 * w .per) (1 ∷ 3 ∷ [])) (256 * (w .per + 1)) (1 ∷ 1 ∷ [])) (flex .format img w))
 
--- ---- on damaged images. Where the census refuses the image, and the call is accepted, more is changed; where the census accepts they are ours, so
--- that demands 2 and 3 have nothing against them
+-- ---- on damaged images. Where the census refuses the image, and the call is accepted, more is changed; where the census accepts they are ours
 
 abbrev pub damaged : List ℕ → Bool
 damaged img = not (eqb (surveyAnswer (flex .census img (zeros (dataSectors img)) (zeros (dataSectors img)))) 0)
@@ -351,12 +350,9 @@ isMissing (At o) = false
 isMissing Missing = true
 isMissing Broken = false
 
-abbrev pub grows : List ℕ → ℕ → Bool
-grows img code = pick (eqb code 2) (isMissing (vacancy img (lastTrack img) (perTrack img))) false
-
 -- a call by which the directory grows
 abbrev pub growsBy : List ℕ → List ℕ → ℕ → Bool
-growsBy img tab n = grows img (functionIn tab (320 * n))
+growsBy img tab n = asksFor 2 tab n and isMissing (vacancy img (lastTrack img) (perTrack img))
 
 -- a full directory is refused, as it once was. "By the manual the directory expands itself and 6 never occurs"
 abbrev pub balking : Service

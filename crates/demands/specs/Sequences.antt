@@ -3,29 +3,36 @@ use mathlib.Core.Path.{_≡_}
 use mathlib.Core.List.{List, [], _∷_, _++_}
 use Prim.Native.Nat.{ℕ, _<_}
 use lib.ListN.{length}
+use Rattle.rules.specs.Bytes.{zeros}
 use Rattle.rules.specs.Outcome.{saysOf, leftOf}
 use Rattle.rules.specs.Census.{Survey, survey, tally}
 use Rattle.laws.specs.Each.{Each}
 use Rattle.laws.specs.Small.{Small}
-use Rattle.demands.specs.Ledger.{Call}
+use Rattle.demands.specs.Ledger.{Call, closed, Ledger, block}
 use Rattle.demands.specs.Service.{Wanted, Service, Machine, SendsByte, run}
 use Rattle.demands.specs.History.{Plain}
-use Rattle.demands.specs.Demands.{surveyAnswer, dataSectors, Closed, Start, Typed, past, ComesBack, AsItWas, Sound}
+use Rattle.demands.specs.Demands.{surveyAnswer, dataSectors, Closed, Start, Typed, past, told, ComesBack, AsItWas, Sound}
 use Rattle.demands.specs.Repairs.{repairs, mended, LiveFile}
 
--- ---- WHERE CALLS END IN A START: plain calls after which all blocks are closed. So a repair, a format or another list can follow
+-- ---- WHERE CALLS END IN A START: plain calls after which all blocks are closed, by the history. So a repair, a format or another list can follow
+
+abbrev pub Shut : Ledger → Type 0
+Shut a = (n : ℕ) → n < 8 → block a n ≡ closed
 
 abbrev pub Restarts : Service → Type 0
-Restarts σ = (x : Machine) → Start x → Small (x .tab) → (cs : List Call) → Each SendsByte cs → Plain (past σ x cs) → Closed (run σ x cs .tab) → Start (run σ x cs)
+Restarts σ = (x : Machine) → Start x → Small (x .tab) → (cs : List Call) → Each SendsByte cs → Plain (past σ x cs) → Shut (told σ x cs) → Start (run σ x cs)
 
 -- ---- sequences
 
+-- a call, a format, a repair; a census, from whose 0 on the history begins anew
 pub data Deed : Type 0 where
   calling : Call → Deed
   formatting : Wanted → Deed
   repairing : Deed
+  checking : Deed
 
--- where a sequence has led: the start from which the history goes, which is the first one or what the last format or repair left; and the calls since
+-- where a sequence has led: the start from which the history goes, which is the first one, or what the last format or repair left, or what the last census
+-- saw; and the calls since
 pub record Stage : Type 0 where
   pub start : Machine
   pub calls : List Call
@@ -46,16 +53,19 @@ module _ (σ : Service) where
   onward g (calling c) = record { start = g .start; calls = g .calls ++ c ∷ [] }
   onward g (formatting w) = stage (formatted σ (here g) w)
   onward g repairing = stage (mended σ (here g))
+  onward g checking = stage (here g)
 
   unfoldable pub reached : Stage → List Deed → Stage
   reached g [] = g
   reached g (d ∷ ds) = reached (onward g d) ds
 
-  -- any call that sends a byte; "accepted formats and repairs (each made with all blocks closed)"
+  -- any call that sends a byte; "accepted formats and repairs (each made with all blocks closed)"; 02, "an image that the census accepts with all FCBs
+  -- closed". After a raw write there is no history, so that blocks are closed is read off the table
   abbrev pub Proper : Stage → Deed → Type 0
   Proper g (calling c) = SendsByte c
   Proper g (formatting w) = Typed w × Closed (here g .tab) × (saysOf (σ .format (here g .img) w) ≡ 0)
   Proper g repairing = Closed (here g .tab) × (repairs σ (here g) ≡ 0)
+  Proper g checking = Closed (here g .tab) × (surveyAnswer (σ .census (here g .img) (zeros (dataSectors (here g .img))) (zeros (dataSectors (here g .img)))) ≡ 0)
 
   abbrev pub AllProper : Stage → List Deed → Type 0
   AllProper g [] = Unit {0}

@@ -20,7 +20,7 @@ use Rattle.laws.specs.Small.{Small}
 use Rattle.laws.specs.Stores.{length-puts, puts-append}
 use Rattle.laws.specs.Effects.{lengths-kept, onTable-all, call-lawful, call-right, call-wrong, call-refused}
 use Rattle.demands.specs.Service.{flex, leaves}
-use Rattle.demands.specs.Demands.{Lent, due, names, InWords, Demand1}
+use Rattle.demands.specs.Demands.{Lent, firstRefusal, names, InWords, Demand1}
 use Rattle.met.specs.Bounds.{touches, untouched, Tame, tame-settled}
 use Rattle.met.specs.Tames.{asked-tame}
 use Rattle.met.specs.Blanks.{formatted}
@@ -44,7 +44,7 @@ checked-alike img tab f o d a =
     (unless-alike (eqb (driveIn tab f) 0) 16 _ _
     (unless-alike (fits (functionIn tab f) (activityIn tab f)) (misfit (functionIn tab f) (activityIn tab f)) o d a)))
 
-early : (img tab : List ℕ) (n b : ℕ) → Lent tab n → due img tab (320 * n) ≢ 0 → answer (call img tab n b) ≡ due img tab (320 * n)
+early : (img tab : List ℕ) (n b : ℕ) → Lent tab n → firstRefusal img tab (320 * n) ≢ 0 → answer (call img tab n b) ≡ firstRefusal img tab (320 * n)
 unfolding asked
 early img tab n b l h =
     ap answer (call-right img tab n b (l .table) (l .block)) ∙ checked-alike img tab (320 * n) _ (done 0 [] []) (λ k. absurd (k refl)) h

@@ -1,6 +1,6 @@
 -- What the history shows of files, and every answer and byte that it predicts, knows no sectors: of two ledgers that differ only in which sectors
 -- are whose the same log makes two that differ so again, and it shows and predicts the same. So two diskettes with the same files, however their
--- sectors lie, are answered alike by every service that meets demand 3, while no raw write is accepted.
+-- sectors lie, are answered alike by every service that meets demand 3, while no raw write is due.
 use mathlib.Core.Path.{_≡_, refl, sym, ap, _∙_, subst}
 use mathlib.Core.Logic.{_≢_}
 use mathlib.Core.Bool.{Bool, true, false}

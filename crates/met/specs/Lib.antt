@@ -4,7 +4,6 @@ pub mod Tames
 pub mod Blanks
 pub mod Mends
 pub mod First
-pub mod Ours
 -- image and table agree with a ledger, and are then what it says
 pub mod Relation
 pub mod Quiet
@@ -39,7 +38,8 @@ pub mod Stays
 -- demands 2 and 3
 pub mod Second
 pub mod Third
--- any sequence of calls, formats and repairs
+-- any sequence of calls, formats and repairs; demand 1 is enough
 pub mod Sequences
+pub mod Ours
 -- what is shown and predicted knows no sectors
 pub mod Forget

@@ -1,11 +1,11 @@
 -- ANY SEQUENCE of calls, formats and repairs, of our service: where plain calls end in a start; what holds wherever a sequence leads.
-use mathlib.Core.Path.{_≡_, ap, ap₂, _∙_}
+use mathlib.Core.Path.{_≡_, ap, ap₂, _∙_, subst}
 use mathlib.Core.List.{List, [], _∷_}
 use Prim.Native.Nat.{ℕ, _*_}
 use native.Mathlib.Omega.{arith}
 use lib.ListN.{length}
 use Rattle.rules.specs.Outcome.{onBlock}
-use Rattle.rules.specs.Block.{blockAt, preset, extension}
+use Rattle.rules.specs.Block.{blockAt, activityIn, preset, extension}
 use Rattle.rules.specs.Census.{survey, census, tally}
 use Rattle.rules.specs.Call.{call}
 use Rattle.laws.specs.Bytes.{length-zeros}
@@ -15,15 +15,16 @@ use Rattle.laws.specs.Small.{Small}
 use Rattle.laws.specs.Facts.{Given}
 use Rattle.laws.specs.Stores.{length-puts}
 use Rattle.laws.specs.Effects.{call-lawful, preset-quiet, extension-quiet}
-use Rattle.demands.specs.Ledger.{Call, setting, extending, asking}
+use Rattle.demands.specs.Ledger.{Call, setting, extending, asking, File, Block, closed}
 use Rattle.demands.specs.Diskette.{ledgerNumbers, ledgerOwners}
 use Rattle.demands.specs.Service.{flex, Machine, SendsByte, outcome, next, run}
 use Rattle.demands.specs.History.{Plain}
 use Rattle.demands.specs.Demands.{lastTrackOf, perTrackOf, surveyAnswer, dataSectors, Closed, Start, past, told}
 use Rattle.demands.specs.Repairs.{repairs, mended}
-use Rattle.demands.specs.Sequences.{Restarts, Deed, calling, formatting, repairing, Stage, stage, formatted, here, onward, reached, AllProper, listedIn, EachOnce, Lasting, Lasts}
+use Rattle.demands.specs.Sequences.{Restarts, Deed, calling, formatting, repairing, checking, Stage, stage, formatted, here, onward, reached, AllProper, listedIn, EachOnce, Lasting, Lasts}
 use Rattle.met.specs.Blanks.{from-blank}
 use Rattle.met.specs.Mends.{from-repair}
+use Rattle.met.specs.Relation.{Keeps}
 use Rattle.met.specs.Runs.{Fine, start-sane, start-shape, start-shaped}
 use Rattle.met.specs.Second.{fine, demand2}
 use Rattle.met.specs.Third.{census-is, once-each, no-others, demand3}
@@ -90,8 +91,12 @@ module _ (x : Machine) (s : Start x) (cs : List Call) (p : Plain (past flex x cs
   restart : Bytes y → Closed (y .tab) → Start y
   restart b c = record { accepted = each-once .accepted _ _ (length-zeros _) (length-zeros _); bytes = b .image; table = b .long; closed = c }
 
+-- a block that the history has closed is closed in the table
+closed-by : (S : ℕ) (os tab : List ℕ) (n : ℕ) (fs : List File) (b : Block) → b ≡ closed → Keeps S os tab n fs b → activityIn tab (320 * n) ≡ 0
+closed-by S os tab n fs b e k = subst (λ (c : Block). Keeps S os tab n fs c) e k
+
 pub restarts : Restarts flex
-restarts x s t cs k p c = restart x s cs p (bytes-run x (start-bytes x s t) cs k) c
+restarts x s t cs k p c = restart x s cs p (bytes-run x (start-bytes x s t) cs k) (λ n h. closed-by _ _ _ n _ _ (c n h) (fine x s cs p .agrees .keeps n h))
 
 -- ---- wherever a sequence leads
 
@@ -116,6 +121,9 @@ all-lasting (repairing ∷ ds) g h p =
     let b = standing-bytes g h in
     all-lasting ds (stage (mended flex (here flex g)))
     (record { begins = from-repair .repaired (here flex g) (b .image) (p .0 .1) .begins; table = b .table; bytes = tt }) (p .1)
+all-lasting (checking ∷ ds) g h p =
+    let b = standing-bytes g h in
+    all-lasting ds (stage (here flex g)) (record { begins = record { accepted = p .0 .1; bytes = b .image; table = b .long; closed = p .0 .0 }; table = b .table; bytes = tt }) (p .1)
 
 -- a repair of a start is not refused
 repair-answers : (x : Machine) → Start x → repairs flex x ≡ 0

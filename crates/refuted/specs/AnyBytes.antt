@@ -25,7 +25,7 @@ use Rattle.laws.specs.Tests.{never, both, pick-cases}
 use Rattle.demands.specs.Ledger.{Call, setting, asking, fate, reply}
 use Rattle.chains.specs.Files.{sectorsAt}
 use Rattle.demands.specs.Service.{Wanted, Service, flex, ansOf, byteOf, imgOf, tabOf, Machine, run, log}
-use Rattle.demands.specs.Demands.{Lent, due, looks, InWords, surveyAnswer, dataSectors, told, Demand1, Demand3, FromBlank}
+use Rattle.demands.specs.Demands.{Lent, firstRefusal, looks, InWords, surveyAnswer, dataSectors, told, Demand1, Demand3, FromBlank}
 use Rattle.demands.specs.Repairs.{RightlyChained}
 use Rattle.demands.specs.Sequences.{listedIn}
 use Rattle.demands.specs.Fakes.{asksFor, transfers, spoilt, asOn, slotOfName, damaged, emptied, refusing, misextending, wiping, misnoting, stalling, purging, softening, heedless, dataLeft, hasty, hoarding, rash, interleaving, harming, doubling, gutting, scouring, posing, leaving, remembering, wrapping, overlong, numberless, tidying, hiding, widening}
@@ -329,7 +329,7 @@ module _ (test : List ℕ → ℕ → Bool) (f : List ℕ → List ℕ → ℕ �
         (λ e. absurd (differ 13 0 refl (sym (ap ansOf (demand1 .words .none img tab n b h)) ∙ e)));
     stated = λ img tab n b. holds (λ (o : Out). member (ansOf o) answerNumbers ≡ true) img tab n b (demand1 .words .stated img tab n b) (λ e. demand1 .words .stated img tab n b);
     exact = λ img tab n b. holds (λ (o : Out). (ansOf o ≡ answer (call img tab n b)) × (byteOf o ≡ given (call img tab n b))) img tab n b (refl, refl) (λ e. (refl, refl));
-    early = λ img tab n b l h. holds (λ (o : Out). ansOf o ≡ due img tab (320 * n)) img tab n b (demand1 .words .early img tab n b l h) (λ e. demand1 .words .early img tab n b l h);
+    early = λ img tab n b l h. holds (λ (o : Out). ansOf o ≡ firstRefusal img tab (320 * n)) img tab n b (demand1 .words .early img tab n b l h) (λ e. demand1 .words .early img tab n b l h);
     refused = λ img tab n b l. holds (λ (o : Out). ansOf o ≢ 0 → o ≡ out (ansOf o) 0 img (over tab (320 * n + 1) (one (ansOf o)))) img tab n b
         (demand1 .words .refused img tab n b l) (λ e h. absurd (h e));
     lengths = λ img tab n b. holds (λ (o : Out). (length (imgOf o) ≡ length img) × (length (tabOf o) ≡ length tab)) img tab n b (demand1 .words .lengths img tab n b)

@@ -1,5 +1,6 @@
--- Raw writing and repair: no fake meets the demands, ours passes where each fails. The diskettes are the start with three files, damaged in three
--- ways: B.DAT runs into the last sector of A.TXT; first free is a sector of track 0; A.TXT runs on to an address that no sector has.
+-- Raw writing and repair: no fake meets the demands, ours passes where each fails. The diskettes are the start with three files, damaged in four
+-- ways: B.DAT runs into the last sector of A.TXT; first free is a sector of track 0; A.TXT runs on to an address that no sector has; B.DAT is a random file
+-- with a sector too few.
 use mathlib.Core.Path.{_≡_, refl, sym, ap, _∙_}
 use mathlib.Core.Logic.{_≢_}
 use mathlib.Core.Bool.{Bool, true, false}

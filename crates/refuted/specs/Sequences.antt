@@ -1,76 +1,60 @@
--- A sequence of calls, a raw write among them, a repair and a format, on the start with three files: it is as `Lasts` supposes, and each data sector is in one
--- place at its end. Fakes that fail there.
-use mathlib.Core.Path.{_≡_, refl}
+-- A sequence of calls, with a raw write, a census, a repair and a format, on the start with three files: it is as `Lasts` supposes, and each data sector is
+-- in one place at its end. Fakes that fail there.
+use mathlib.Core.Path.{_≡_, refl, ap, _∙_}
 use mathlib.Core.List.{List, [], _∷_}
 use native.Mathlib.Omega.{arith}
+use lib.ListN.{getD, replicate, getD-replicate}
 use Rattle.rules.specs.Bytes.{zeros}
 use Rattle.rules.specs.Census.{survey}
 use Rattle.rules.specs.All.{rules}
 use Rattle.laws.specs.Small.{Small}
-use Rattle.demands.specs.Ledger.{Call, setting, asking}
-use Rattle.demands.specs.Service.{flex, run}
+use Rattle.demands.specs.Ledger.{Call, setting, asking, Block, closed, Ledger}
+use Rattle.demands.specs.Service.{flex, run, log}
 use Rattle.demands.specs.History.{Plain}
-use Rattle.demands.specs.Demands.{Typed, past}
-use Rattle.demands.specs.Repairs.{mended}
-use Rattle.demands.specs.Sequences.{Restarts, Deed, calling, formatting, repairing, stage, reached, here, AllProper, EachOnce, Lasting, Lasts}
+use Rattle.demands.specs.Demands.{Closed, Typed, told, past}
+use Rattle.demands.specs.Sequences.{Shut, Restarts, Deed, calling, formatting, repairing, checking, stage, reached, here, AllProper, EachOnce, Lasting, Lasts}
 use Rattle.demands.specs.Fakes.{hoarding, pretending, miscounting}
 use Rattle.met.specs.Sequences.{lasts}
 use Rattle.refuted.specs.All.{demands}
 use Rattle.refuted.specs.Pair.{below, small-below, closed-eight, pair, pair-start, paired}
+use Rattle.refuted.specs.Run.{outcomes}
 use Rattle.refuted.specs.AnyBytes.{differ, wanted, blankLabel}
-use Rattle.refuted.specs.Mended.{unprotect, delete}
 
--- block 3 lists, takes the protection off A.TXT by a raw write, and closes; a repair; block 7 deletes A.TXT; a format; block 0 makes C.TXT and sends a byte
+-- block 4 writes a boot sector raw; a census; block 2 deletes B.DAT; a repair; a format; block 0 makes C.TXT and sends a byte
+abbrev rawWrite : List Call
+rawWrite = setting 4 30 0 ∷ setting 4 31 1 ∷ setting 4 0 10 ∷ asking 4 0 ∷ []
+
+abbrev deletes : List Call
+deletes = setting 2 0 12 ∷ asking 2 0 ∷ []
+
+abbrev deeds : List Call → List Deed → List Deed
+deeds [] ds = ds
+deeds (c ∷ cs) ds = calling c ∷ deeds cs ds
+
 unfoldable pub busyNight : List Deed
-busyNight =
-    calling (asking 3 0) ∷ calling (setting 3 0 7) ∷ calling (asking 3 0) ∷ calling (setting 3 15 0) ∷ calling (setting 3 0 8) ∷ calling (asking 3 0)
-    ∷ calling (setting 3 0 4) ∷ calling (asking 3 0)
-    ∷ repairing
-    ∷ calling (asking 7 0)
-    ∷ formatting (wanted blankLabel)
-    ∷ calling (asking 0 0) ∷ calling (asking 0 7) ∷ []
+busyNight = deeds rawWrite (checking ∷ deeds deletes (repairing ∷ formatting (wanted blankLabel) ∷ calling (asking 0 0) ∷ calling (asking 0 7) ∷ []))
 
--- what is asked for is made of bytes
+-- what is asked for is made of bytes; the raw write is accepted; all blocks are closed when the census is made, and when repair and format are
 asked-typed : Typed (wanted blankLabel)
 unfolding below
 asked-typed = record { label = small-below blankLabel refl; month = omega arith; day = omega arith; year = omega arith }
 
+pub raw-accepted : outcomes (log flex pair rawWrite) ≡ replicate 4 (0, 0)
+unfolding rules demands paired
+raw-accepted = refl
+
+closed-then : Closed (run flex pair rawWrite .tab)
+unfolding rules demands paired
+closed-then = closed-eight (run flex pair rawWrite .tab) refl
+
+closed-later : Closed (run flex (run flex pair rawWrite) deletes .tab)
+unfolding rules demands paired
+closed-later = closed-eight (run flex (run flex pair rawWrite) deletes .tab) refl
+
 pub night-proper : AllProper flex (stage pair) busyNight
-unfolding rules demands paired busyNight unprotect delete
-night-proper = (
-  omega arith,
-  (
-    omega arith,
-    (
-      omega arith,
-      (
-        omega arith,
-        (
-          omega arith,
-          (
-            omega arith,
-            (
-              omega arith,
-              (
-                omega arith,
-                (
-                  (closed-eight (run flex pair unprotect .tab) refl, refl),
-                  (
-                    omega arith,
-                    (
-                      (asked-typed, closed-eight (run flex (mended flex (run flex pair unprotect)) delete .tab) refl, refl),
-                      (omega arith, (omega arith, tt)),
-                    ),
-                  ),
-                ),
-              ),
-            ),
-          ),
-        ),
-      ),
-    ),
-  ),
-)
+unfolding rules demands paired busyNight
+night-proper =
+    (omega arith, (omega arith, (omega arith, (omega arith, ((closed-then, refl), (omega arith, (omega arith, ((closed-later, refl), ((asked-typed, closed-later, refl), (omega arith, (omega arith, tt)))))))))))
 
 table-small : Small (pair .tab)
 unfolding rules paired below
@@ -110,14 +94,14 @@ pretending-fails-too d =
     (omega arith, (omega arith, ((closed-eight (run pretending pair (setting 4 0 10 ∷ asking 4 0 ∷ []) .tab) refl, refl), tt))) .begins .accepted)
 
 -- plain calls that end in no start, with all blocks closed: block 2 deletes B.DAT
-abbrev deletes : List Call
-deletes = setting 2 0 12 ∷ asking 2 0 ∷ []
+all-shut : (a : Ledger) → a .blocks ≡ replicate 8 closed → Shut a
+all-shut a e n h = ap (λ (bs : List Block). getD bs n closed) e ∙ getD-replicate {A = Block} 8 n closed closed h
 
 pub miscounting-fails : Restarts miscounting → ⊥
 unfolding rules demands paired
 miscounting-fails d =
     differ 44 0 refl
-    (d pair pair-start table-small deletes (omega arith, (omega arith, tt)) (refl, (refl, tt)) (closed-eight (run miscounting pair deletes .tab) refl) .accepted)
+    (d pair pair-start table-small deletes (omega arith, (omega arith, tt)) (refl, (refl, tt)) (all-shut (told miscounting pair deletes) refl) .accepted)
 
 pub miscounting-ours : flex .census (run flex pair deletes .img) (zeros 5) (zeros 5) ≡ survey 0 (1 ∷ 4 ∷ 3 ∷ 2 ∷ 0 ∷ []) (0 ∷ 0 ∷ 0 ∷ 1 ∷ 1 ∷ [])
 unfolding rules demands paired
