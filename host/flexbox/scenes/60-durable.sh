@@ -82,7 +82,7 @@ if [ -n "$witness" ]; then
     cp disk old
     ends 1 "" repair --dry-run disk
     status=0
-    "${flexbox[@]}" repair disk >out || status=$?
+    "${flexbox[@]}" repair --yes disk >out || status=$?
     [ "$status" = 1 ] || fail "status $status after a repair"
     cp disk new
     rm disk.before
@@ -91,13 +91,13 @@ if [ -n "$witness" ]; then
         [ $i -le 7 ] || there=new
         begin old
         rm -f disk.before
-        witnessed WITNESS_STOP=$i -- repair disk
+        witnessed WITNESS_STOP=$i -- repair --yes disk
         [ "$status" = 99 ] || fail "a repair was not cut before call $i"
         is $there
         kept $((i - 1))
         begin old
         rm -f disk.before
-        witnessed WITNESS_FAIL=$i -- repair disk
+        witnessed WITNESS_FAIL=$i -- repair --yes disk
         [ "$status" = 3 ] || fail "status $status after call $i of a repair failed"
         is $there
         left=$(find . -name '*.new')
@@ -111,19 +111,19 @@ if [ -n "$witness" ]; then
     done
     begin old
     rm -f disk.before
-    witnessed WITNESS_FAIL=1 -- repair disk
+    witnessed WITNESS_FAIL=1 -- repair --yes disk
     says "flexbox: disk: not changed, since the old image is not kept: the new image could not be written beside it: No space left"
-    witnessed WITNESS_FAIL=5 -- repair disk
+    witnessed WITNESS_FAIL=5 -- repair --yes disk
     says "flexbox: disk: not changed: the new image could not be written beside it: No space left"
-    witnessed -- repair disk
+    witnessed -- repair --yes disk
     [ "$status" = 1 ] || fail "status $status after a repair under the witness"
     is new
-    calls_are "open disk lock disk read disk open . make 600 NEW write NEW sync NEW read disk move disk.before sync $folder open $folder make 600 NEW write NEW sync NEW read disk rename disk sync $folder"
+    calls_are "open disk share disk read disk open disk lock disk read disk open . make 600 NEW write NEW sync NEW read disk move disk.before sync $folder open $folder make 600 NEW write NEW sync NEW read disk rename disk sync $folder"
     rm disk.before
     # ---- a repair that a cut broke off between the two is made again, and keeps the old image once more
     begin old
-    witnessed WITNESS_STOP=5 -- repair disk
-    witnessed -- repair disk
+    witnessed WITNESS_STOP=5 -- repair --yes disk
+    witnessed -- repair --yes disk
     is new
     cmp disk.before old
     cmp disk.before-2 old
@@ -131,7 +131,7 @@ if [ -n "$witness" ]; then
     # ---- and a file that comes to the name of the old image meanwhile stays
     begin old
     echo another >other
-    witnessed WITNESS_AT_MOVE="other disk.before" -- repair disk
+    witnessed WITNESS_AT_MOVE="other disk.before" -- repair --yes disk
     [ "$status" = 3 ] || fail "status $status where the name was taken meanwhile"
     says "flexbox: disk.before: another file was put there meanwhile; the old image is not kept, nor changed"
     is old
@@ -139,7 +139,7 @@ if [ -n "$witness" ]; then
     rm disk.before
     # ---- on a file system without a rename that replaces nothing, too
     begin old
-    witnessed WITNESS_NO_MOVES=1 -- repair disk
+    witnessed WITNESS_NO_MOVES=1 -- repair --yes disk
     [ "$status" = 1 ] || fail "status $status without such a rename"
     is new
     cmp disk.before old

@@ -31,6 +31,15 @@ pub struct Fate {
     pub next: Address,
     /// Who has that sector then, if it is a data sector.
     pub holder: Option<Owner>,
+    /// How many sectors behind what the slot states its chain leads over that no chain has. They can be read now, and are free then.
+    pub behind: usize,
+}
+
+/// What a repair takes away.
+#[derive(Debug, PartialEq, Eq)]
+pub struct Loss {
+    pub files: usize,
+    pub sectors: usize,
 }
 
 /// How one who wants a file whole that would be cut can have it, as far as trying it on a copy tells.
@@ -57,13 +66,25 @@ impl Repaired {
         let after = diskette.slots()?;
         let lost = lost(check);
         let is_free = |number: u16| held.iter().any(|one| one.sector == number && one.owner == OWNER_FREE);
+        let found = lost.iter().filter(|&&number| is_free(number)).count();
         let files = check.slots.iter().zip(&after);
         Ok(Repaired {
-            fates: files.filter_map(|(old, new)| fate(check, image, &held, old, new)).collect(),
+            fates: files.filter_map(|(old, new)| fate(check, image, &held, &lost, old, new)).collect(),
             free: held.iter().filter(|one| one.owner == OWNER_FREE).count(),
-            found: lost.into_iter().filter(|&number| is_free(number)).count(),
+            found,
             diskette,
         })
+    }
+
+    /// Files that lose something: nobody but the operator can say whether that may be.
+    pub fn losing(&self) -> impl Iterator<Item = &Fate> {
+        self.fates.iter().filter(|fate| fate.is_cut() || fate.behind > 0)
+    }
+
+    /// At most so much: a slot may state more sectors than the file ever had.
+    pub fn loss(&self, check: &Check) -> Loss {
+        let sectors = self.losing().map(|fate| fate.lost(check.shape.data_sectors())).sum();
+        Loss { files: self.losing().count(), sectors }
     }
 
     /// Files that are rightly chained and would be cut all the same: an earlier one, or the directory, has their sectors.
@@ -81,7 +102,7 @@ fn lost(check: &Check) -> Vec<u16> {
     (0..held.len()).filter(|&number| !held[number]).map(|number| number as u16).collect()
 }
 
-fn fate(check: &Check, image: &[u8], held: &[Held], old: &Slot, new: &Slot) -> Option<Fate> {
+fn fate(check: &Check, image: &[u8], held: &[Held], lost: &[u16], old: &Slot, new: &Slot) -> Option<Fate> {
     let (entry, after) = (old.entry()?, new.entry()?);
     let next = match after.sectors {
         0 => entry.start,
@@ -95,7 +116,23 @@ fn fate(check: &Check, image: &[u8], held: &[Held], old: &Slot, new: &Slot) -> O
         is_right: check.of_slot(old.number).all(|finding| finding.number != 45),
         next,
         holder,
+        behind: behind(check, image, lost, next),
     })
+}
+
+/// How many sectors a chain leads over from here on that are in no chain.
+fn behind(check: &Check, image: &[u8], lost: &[u16], from: Address) -> usize {
+    let mut met = Vec::new();
+    let mut at = from;
+    while check.shape.is_data(at) {
+        let number = check.shape.number(at) as u16;
+        if lost.binary_search(&number).is_err() || met.contains(&number) {
+            break;
+        }
+        met.push(number);
+        at = Address::at(image, check.shape.offset(at));
+    }
+    met.len()
 }
 
 fn owner(held: &[Held], sector: usize) -> Owner {
@@ -113,6 +150,11 @@ impl Fate {
 
     pub fn is_cut(&self) -> bool {
         self.kept < self.stated()
+    }
+
+    /// How many sectors it loses at most, on a diskette that has so many.
+    pub fn lost(&self, data_sectors: usize) -> usize {
+        self.stated().min(data_sectors).saturating_sub(self.kept) + self.behind
     }
 
     /// What can be done for this file before the diskette is repaired.

@@ -1,6 +1,6 @@
 //! A new image takes its place at once or not at all: over an old image, which may be kept beside it, or where no file is.
 
-use crate::image::Image;
+use crate::image::{changed_meanwhile, Image};
 use std::fs::{self, File, OpenOptions, Permissions};
 use std::io::{self, Write};
 use std::os::unix::fs::{MetadataExt, OpenOptionsExt, PermissionsExt};
@@ -226,7 +226,7 @@ fn unchanged(image: &Image) -> Result<(), String> {
     let name = image.named().display();
     match image.is_as_read() {
         Ok(true) => Ok(()),
-        Ok(false) => Err(format!("{}: changed meanwhile by another program; nothing is written", name)),
+        Ok(false) => Err(changed_meanwhile(image.named())),
         Err(error) => Err(format!("{}: it can't be read once more, so nothing is written: {}", name, error)),
     }
 }

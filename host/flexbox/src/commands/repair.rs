@@ -13,9 +13,10 @@ use flex::{Address, Diskette, Refusal};
 use std::fmt::Write;
 
 pub fn run(words: &Words) -> Result<(), Failure> {
+    // Others may read while somebody thinks about the question; the lock to change it is taken after the answer.
     let mut image = match words.has("--dry-run") {
         true => Image::look(words.image(), words.wait())?,
-        false => Image::take(words.image(), words.wait())?,
+        false => Image::look_to_change(words.image(), words.wait())?,
     };
     let old = image.read()?;
     let mut diskette = Diskette::new(old.clone());
@@ -32,7 +33,7 @@ pub fn run(words: &Words) -> Result<(), Failure> {
         return Err(Failure::Shown);
     }
     agree(words, &plan, repaired)?;
-    save(words, image, &old, repaired)?;
+    save(words, image.claim(words.wait())?, &old, repaired)?;
     Err(Failure::Shown)
 }
 
@@ -77,6 +78,10 @@ fn told(words: &Words, plan: &Plan, repaired: &Repaired, image: &[u8]) -> String
         }
     };
     let _ = writeln!(text, "  free: {}{}", plural(repaired.free, "sector"), found);
+    if repaired.losing().next().is_some() {
+        let loss = repaired.loss(&plan.check);
+        let _ = writeln!(text, "  lost: up to {} of {}", plural(loss.sectors, "sector"), plural(loss.files, "file"));
+    }
     for fate in repaired.wronged() {
         text.push_str(&wronged(words, plan, fate, image));
     }
@@ -147,26 +152,44 @@ fn taker(plan: &Plan, fate: &Fate) -> String {
     fate.holder.map_or(String::new(), |owner| holder(owner, &plan.check.slots))
 }
 
-/// Where a sound file would be cut, somebody has to say so.
+/// Where a file would lose something, somebody has to say that it may.
 fn agree(words: &Words, plan: &Plan, repaired: &Repaired) -> Result<(), Failure> {
-    if words.has("--yes") || repaired.wronged().next().is_none() {
+    if words.has("--yes") || repaired.losing().next().is_none() {
         return Ok(());
     }
-    let (disk, cut) = (words.image().display(), would_be_cut(plan, repaired));
+    let (disk, lost) = (words.image().display(), would_be_lost(plan, repaired));
     if !input::can_ask() {
         let why = "standard input is no terminal to ask at; --yes repairs it all the same";
-        return Err(Failure::Unrepaired(format!("{}: not changed, since {}; {}", disk, cut, why)));
+        return Err(Failure::Unrepaired(format!("{}: not changed, since {}; {}", disk, lost, why)));
     }
-    match input::ask(&format!("flexbox: {}: {}. Repair it all the same? [y/N] ", disk, cut)) {
+    match input::ask(&format!("flexbox: {}: {}. Repair it all the same? [y/N] ", disk, lost)) {
         true => Ok(()),
         false => Err(Failure::Unrepaired(format!("{}: not changed", disk))),
     }
 }
 
-/// The files that are rightly chained and would be cut, and for whom: what was printed of them may have gone to a file, where the one
-/// who is asked does not see it.
-fn would_be_cut(plan: &Plan, repaired: &Repaired) -> String {
-    let one = |fate: &Fate| format!("{} for {}", fate.entry.name, taker(plan, fate));
-    let all: Vec<String> = repaired.wronged().map(one).collect();
-    format!("{} would be cut: {}", plural(all.len(), "rightly chained file"), all.join(", "))
+/// How many files the question names before the rest is only counted.
+const NAMED: usize = 8;
+
+/// What is lost, counted, and by whom: what was printed of it may have gone to a file, where the one who is asked does not see it.
+fn would_be_lost(plan: &Plan, repaired: &Repaired) -> String {
+    let loss = repaired.loss(&plan.check);
+    let mut files: Vec<String> = repaired.losing().take(NAMED).map(|fate| losing(plan, fate)).collect();
+    if loss.files > NAMED {
+        files.push(format!("{} more", loss.files - NAMED));
+    }
+    let (count, sectors) = (plural(loss.files, "file"), plural(loss.sectors, "sector"));
+    format!("{} would lose up to {}: {}", count, sectors, files.join(", "))
+}
+
+/// "NORTH.TXT (5 to 2 sectors)", and for whom where the chain of the one that is cut is right.
+fn losing(plan: &Plan, fate: &Fate) -> String {
+    let name = fate.entry.name;
+    match fate.is_cut() {
+        false => format!("{} ({} behind its stated size)", name, plural(fate.behind, "sector")),
+        true if fate.is_right => {
+            format!("{} ({} to {}, for {})", name, fate.stated(), plural(fate.kept, "sector"), taker(plan, fate))
+        }
+        true => format!("{} ({} to {})", name, fate.stated(), plural(fate.kept, "sector")),
+    }
 }

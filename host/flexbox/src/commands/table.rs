@@ -132,8 +132,9 @@ pub const COMMANDS: &[Command] = &[
         details: "Says what is wrong, then what the proved repair leaves: in the order of the slots each file keeps its chain as far as\n\
                   it goes over sectors that no earlier file has kept, at most as long as it is stated; all else is free. A file\n\
                   that is rightly chained and shares nothing is kept whole. Then it is done, and the old image is kept beside the\n\
-                  new one as IMAGE.before, or IMAGE.before-2 and on where that is there. Where a rightly chained file would be cut\n\
-                  for an earlier one, it is said how to prevent that, and asked first. docs/REPAIR.md says more.\n\
+                  new one as IMAGE.before, or IMAGE.before-2 and on where that is there. Where a file would lose something, it is\n\
+                  counted and asked first, and others can read IMAGE meanwhile; where a rightly chained one would be cut for an\n\
+                  earlier one, it is said how to prevent that. docs/REPAIR.md says more.\n\
                   Exit status 0: nothing was wrong, and nothing is written; 1: repaired; 2: not repaired, with the reason.\n\
                   \x20 --dry-run  only says what would be done; the exit status is the one that the repair has once it is agreed to\n\
                   \x20            and can be written\n\
