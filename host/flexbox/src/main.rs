@@ -14,6 +14,7 @@ mod input;
 mod json;
 mod page;
 mod plan;
+mod raw;
 mod replace;
 mod words;
 

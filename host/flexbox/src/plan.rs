@@ -1,7 +1,7 @@
 //! What a repair does to a diskette, told before it is done. The proved repair is made on a copy, and the two are compared: nothing here
 //! decides what a file keeps.
 
-use crate::check::{self, Check, Owner};
+use crate::check::{self, Check, Owner, Unreached};
 use flex::{Address, Diskette, Entry, Held, Name, Refusal, Slot, OWNER_DIRECTORY, OWNER_FREE};
 
 /// What is wrong, and what comes out.
@@ -81,16 +81,22 @@ impl Repaired {
         self.fates.iter().filter(|fate| fate.is_cut() || fate.behind > 0)
     }
 
-    /// At most so much: a slot may state more sectors than the file ever had.
+    /// At most so much, with the files that the directory does not reach: a slot may state more sectors than the file ever had.
     pub fn loss(&self, check: &Check) -> Loss {
-        let sectors = self.losing().map(|fate| fate.lost(check.shape.data_sectors())).sum();
-        Loss { files: self.losing().count(), sectors }
+        let cut: usize = self.losing().map(|fate| fate.lost(check.shape.data_sectors())).sum();
+        let vanished: usize = vanishing(check).map(|file| file.loose).sum();
+        Loss { files: self.losing().count() + vanishing(check).count(), sectors: cut + vanished }
     }
 
     /// Files that are rightly chained and would be cut all the same: an earlier one, or the directory, has their sectors.
     pub fn wronged(&self) -> impl Iterator<Item = &Fate> {
         self.fates.iter().filter(|fate| fate.is_right && fate.is_cut())
     }
+}
+
+/// Files that the directory does not reach, and of which a repair would make sectors free.
+pub fn vanishing(check: &Check) -> impl Iterator<Item = &Unreached> {
+    check.unreached.iter().filter(|file| file.loose > 0)
 }
 
 /// The numbers of the data sectors that no chain holds.

@@ -5,8 +5,10 @@
 mod chain;
 mod directory;
 mod sectors;
+mod unreached;
 
 pub use sectors::{file, holder, Owner};
+pub use unreached::Unreached;
 
 use chain::Chain;
 use flex::{Address, Diskette, Refusal, Shape, Slot};
@@ -43,6 +45,8 @@ pub struct Check {
     pub directory: Vec<Address>,
     /// The free chain, the data sectors of the directory, and the files' chains, each as far as its links are right.
     pub chains: Vec<(Owner, Vec<Address>)>,
+    /// What looks like files in sectors of track 0 that the directory does not reach.
+    pub unreached: Vec<Unreached>,
 }
 
 /// Looks at the whole diskette. Refused is only what is no image of a diskette (41).
@@ -70,7 +74,8 @@ pub fn check(diskette: &mut Diskette) -> Result<Check, Refusal> {
     if directory_is_right {
         findings.extend(sectors::lost(shape, &owners));
     }
-    Ok(Check { shape, verdict, findings, slots, directory, chains })
+    let unreached = unreached::files(image, shape, &directory, &owners);
+    Ok(Check { shape, verdict, findings, slots, directory, chains, unreached })
 }
 
 /// The data sectors among those of the directory: it has taken them when it had no slot left.

@@ -1,7 +1,7 @@
 //! `check`: what is damaged and where, in passes as fsck has them.
 
 use super::{look, plural, print, print_json, refused_of};
-use crate::check::{check, Check};
+use crate::check::{check, Check, Unreached};
 use crate::failure::Failure;
 use crate::json;
 use crate::words::Words;
@@ -38,8 +38,15 @@ fn as_text(words: &Words, check: &Check) -> String {
             text.push_str("  the slots can't be listed: names, files and their sectors are not checked\n");
         }
     }
+    text.push_str(&unreached(check));
     text.push_str(&last_line(words, check));
     text
+}
+
+/// The files that the directory has lost, a line each.
+pub fn unreached(check: &Check) -> String {
+    let line = |file: &Unreached| format!("  not reached by the directory: {}\n", file);
+    check.unreached.iter().map(line).collect()
 }
 
 pub fn last_line(words: &Words, check: &Check) -> String {
@@ -82,5 +89,18 @@ pub fn as_json(words: &Words, check: &Check) -> String {
         .with("free_sectors", check.free_sectors())
         .with("directory_sectors", check.directory_sectors())
         .with("findings", json::list(findings))
+        .with("unreached", json::list(check.unreached.iter().map(unreached_as_json)))
+        .end()
+}
+
+fn unreached_as_json(file: &Unreached) -> String {
+    json::Object::new()
+        .with_text("name", &file.entry.name.to_string())
+        .with("directory_sector", json::address(file.place.sector))
+        .with("displacement", file.place.displacement)
+        .with("sectors", file.entry.sectors)
+        .with("start", json::address(file.entry.start))
+        .with("end", json::address(file.entry.end))
+        .with("in_no_chain", file.loose)
         .end()
 }

@@ -41,13 +41,16 @@ fn in_use() -> Vec<u8> {
     diskette.into_buffers().0
 }
 
-/// Sound; A's second sector is B's, with the slot of A; the directory leads nowhere.
+/// Sound; A's second sector is B's, with the slot of A; the directory leads nowhere; its second sector, where A's slot is too, is not
+/// reached.
 fn images() -> Vec<Vec<u8>> {
-    let (mut shared, mut loose) = (in_use(), in_use());
+    let (mut shared, mut loose, mut cut) = (in_use(), in_use(), in_use());
     shared[offset(6, 1, 1)..][..2].copy_from_slice(&[1, 4]);
     shared[1024 + 16 + 15..][..2].copy_from_slice(&[1, 4]);
     loose[1024..1026].copy_from_slice(&[0, 9]);
-    vec![in_use(), shared, loose]
+    cut.copy_within(1024 + 16..1024 + 40, offset(6, 0, 6) + 16);
+    cut[1024..1026].copy_from_slice(&[0, 0]);
+    vec![in_use(), shared, loose, cut]
 }
 
 /// What a command prints of a diskette; None where `list` is refused.

@@ -77,7 +77,7 @@ fn as_text(words: &Words, record: &Record, check: &Check) -> String {
     let census = check.verdict.map_or_else(|refusal| refusal.to_string(), |()| "accepted".to_string());
     format!(
         "image    {}, {} bytes\nshape    tracks 0 to {} (M), {} sectors a track (S): {} sectors, {} of them for files\n\
-         label    {}\nvolume   {}\nmade     {}\nfree     {}\nfiles    {}\ncensus   {}\n",
+         label    {}\nvolume   {}\nmade     {}\nfree     {}\nfiles    {}\n{}census   {}\n",
         words.image().display(),
         sectors * flex::SECTOR,
         shape.last,
@@ -89,8 +89,21 @@ fn as_text(words: &Words, record: &Record, check: &Check) -> String {
         record.made(),
         free,
         files,
+        unreached(check),
         census
     )
+}
+
+/// A line that is there only where there is something to tell.
+fn unreached(check: &Check) -> String {
+    match names(check).as_slice() {
+        [] => String::new(),
+        names => format!("beyond   in sectors of track 0 that the directory does not reach: {}\n", names.join(", ")),
+    }
+}
+
+fn names(check: &Check) -> Vec<String> {
+    check.unreached.iter().map(|file| file.entry.name.to_string()).collect()
 }
 
 pub fn as_json(words: &Words, record: &Record, check: &Check) -> String {
@@ -109,5 +122,6 @@ pub fn as_json(words: &Words, record: &Record, check: &Check) -> String {
         .with("files", json::number(check.files()))
         .with("slots", json::number(check.files().map(|_| check.slots.len())))
         .with("census", check.verdict.map_or_else(Refusal::number, |()| 0))
+        .with("unreached", json::list(names(check).iter().map(|name| json::text(name))))
         .end()
 }

@@ -7,7 +7,7 @@ use crate::check::{file, holder, Owner};
 use crate::failure::Failure;
 use crate::image::Image;
 use crate::input;
-use crate::plan::{Fate, Plan, Repaired};
+use crate::plan::{vanishing, Fate, Plan, Repaired};
 use crate::words::Words;
 use flex::{Address, Diskette, Refusal};
 use std::fmt::Write;
@@ -25,7 +25,7 @@ pub fn run(words: &Words) -> Result<(), Failure> {
     if plan.check.verdict.is_ok() {
         return Ok(());
     }
-    print(findings(&plan).as_bytes())?;
+    print((findings(&plan) + &check::unreached(&plan.check)).as_bytes())?;
     let repaired = plan.repaired.as_ref().map_err(|&refusal| unrepairable(words, refusal, &reason(&plan, refusal)))?;
     print(told(words, &plan, repaired, &old).as_bytes())?;
     if words.has("--dry-run") {
@@ -78,8 +78,8 @@ fn told(words: &Words, plan: &Plan, repaired: &Repaired, image: &[u8]) -> String
         }
     };
     let _ = writeln!(text, "  free: {}{}", plural(repaired.free, "sector"), found);
-    if repaired.losing().next().is_some() {
-        let loss = repaired.loss(&plan.check);
+    let loss = repaired.loss(&plan.check);
+    if loss.files > 0 {
         let _ = writeln!(text, "  lost: up to {} of {}", plural(loss.sectors, "sector"), plural(loss.files, "file"));
     }
     for fate in repaired.wronged() {
@@ -154,7 +154,7 @@ fn taker(plan: &Plan, fate: &Fate) -> String {
 
 /// Where a file would lose something, somebody has to say that it may.
 fn agree(words: &Words, plan: &Plan, repaired: &Repaired) -> Result<(), Failure> {
-    if words.has("--yes") || repaired.losing().next().is_none() {
+    if words.has("--yes") || repaired.loss(&plan.check).files == 0 {
         return Ok(());
     }
     let (disk, lost) = (words.image().display(), would_be_lost(plan, repaired));
@@ -174,7 +174,11 @@ const NAMED: usize = 8;
 /// What is lost, counted, and by whom: what was printed of it may have gone to a file, where the one who is asked does not see it.
 fn would_be_lost(plan: &Plan, repaired: &Repaired) -> String {
     let loss = repaired.loss(&plan.check);
-    let mut files: Vec<String> = repaired.losing().take(NAMED).map(|fate| losing(plan, fate)).collect();
+    let cut = repaired.losing().map(|fate| losing(plan, fate));
+    let vanished = vanishing(&plan.check).map(|file| {
+        format!("{} (not reached by the directory, {} in no chain)", file.entry.name, plural(file.loose, "sector"))
+    });
+    let mut files: Vec<String> = cut.chain(vanished).take(NAMED).collect();
     if loss.files > NAMED {
         files.push(format!("{} more", loss.files - NAMED));
     }
