@@ -169,7 +169,7 @@ done
 refuses 3 "flexbox: /dev/null: it is there already; --replace would write to it" get disk ONE.TXT=/dev/null
 does get --replace disk ONE.TXT=/dev/null
 ln -s three link
-refuses 3 "flexbox: link: it is there already; --replace would write to it" get disk TWO.TXT=link
+refuses 3 "flexbox: link: it is there already; --replace would replace it" get disk TWO.TXT=link
 does get --replace --trim disk TWO.TXT=link
 [ -L link ] || fail "get replaced a link"
 cmp three logs/TWO.TXT

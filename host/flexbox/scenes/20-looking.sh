@@ -103,9 +103,25 @@ refuses 2 "at most 8 characters" get disk NINECHARS.TXT
 refuses 2 "at most 3" delete disk A.TEXT
 refuses 2 "standard input is empty" put disk A.TXT </dev/null
 
-# ---- what can't be printed is a failure; a reader who has seen enough is none
+# ---- what can't be printed is a failure; a reader who has seen enough is none, but of get, where every byte counts
 if [ -c /dev/full ]; then
     for command in list info check census report; do unprinted "flexbox: standard output: No space left" $command disk; done
+    unprinted "flexbox: standard output: No space left" get disk NORTH.TXT
+fi
+# A standard output that is closed. An emulator may open a file of its own in its place.
+if [ ${#flexbox[@]} = 1 ]; then
+    for arguments in "list disk" "get disk NORTH.TXT" "check disk" "help"; do
+        status=0
+        # shellcheck disable=SC2086
+        limited "${flexbox[@]}" $arguments >&- 2>err || status=$?
+        checks=$((checks + 1))
+        [ "$status" = 3 ] || fail "status $status where standard output is closed: $arguments"
+        [ "$(cat err)" = "flexbox: standard output: it is closed" ] || fail "it says: $(cat err)"
+    done
+    # A change that prints nothing does not need one.
+    limited "${flexbox[@]}" rename disk NORTH.TXT WEST.TXT >&- || fail "status $? of a rename where standard output is closed"
+    checks=$((checks + 1))
+    fresh
 fi
 # The reader is gone before the first byte: the FIFO is opened for both, and then for writing alone.
 mkfifo gone
@@ -115,4 +131,12 @@ mkfifo gone
     limited "${flexbox[@]}" list disk 2>err
 ) || fail "status $? where nobody reads on: $(cat err)"
 [ ! -s err ] || fail "said where nobody reads on: $(cat err)"
-checks=$((checks + 1))
+status=0
+(
+    exec 3<>gone
+    exec >gone 3<&-
+    limited "${flexbox[@]}" get disk NORTH.TXT 2>err
+) || status=$?
+[ "$status" = 3 ] || fail "status $status of get where nobody reads on"
+says "flexbox: standard output: Broken pipe"
+checks=$((checks + 2))

@@ -24,7 +24,7 @@ closed_folder() {
     chmod 700 closed
     "$@" touch closed/there
     chmod 500 closed
-    refuses 3 "flexbox: closed/there: a new file can't be made beside it: Permission denied" \
+    refuses 3 "closed/there: not replaced: a new file can't be made in its folder: Permission denied" \
         get --replace closed/disk NORTH.TXT=closed/there
     chmod 700 closed
 }
@@ -107,6 +107,30 @@ foretold "it has no write permission, which is a diskette's write-protect tab; n
 does list disk
 does check disk
 chmod 644 disk
+
+# ---- get keeps owner and mode of a file that it replaces, and does not replace a read-only one; of several then none is written
+echo old >there
+chmod 4640 there
+[ "$(id -u)" != 0 ] || chown 4321:8765 there
+[ "$(id -u)" != 0 ] || chmod 4640 there
+owner=$(stat -c %u:%g:%a there)
+does get --replace disk NORTH.TXT=there
+[ "$(stat -c %u:%g:%a there)" = "$owner" ] || fail "owner and mode were $owner, and are $(stat -c %u:%g:%a there)"
+does get disk NORTH.TXT
+cmp out there
+echo old >there
+chmod 444 there
+refuses 3 "flexbox: there: it has no write permission; not replaced" get --replace disk SOUTH.TXT=south NORTH.TXT=there
+[ "$(cat there)" = old ] && [ ! -e south ] || fail "a refused get has written"
+ln -s there link
+refuses 3 "flexbox: link: it has no write permission; not replaced" get --replace disk NORTH.TXT=link
+rm -f there
+for way in "" --replace; do
+    # shellcheck disable=SC2086
+    refuses 3 "flexbox: link: it is there already, a link that leads nowhere" get $way disk NORTH.TXT=link
+done
+[ -L link ] && [ ! -e there ] || fail "a link that leads nowhere was followed or replaced"
+rm link
 
 # ---- a second name of the same file would keep the old image
 ln disk second

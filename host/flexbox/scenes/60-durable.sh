@@ -14,7 +14,7 @@ is() {
 
 # calls_are TEXT: all calls of the last command under the witness; the new file's name is NEW
 calls_are() {
-    sed 's/\.flexbox-[0-9]*-[0-9]*\.new/NEW/' log | uniq | tr '\n' ' ' >calls
+    sed 's/\.flexbox-[0-9]*-[0-9]*-[^ ]*\.new/NEW/' log | uniq | tr '\n' ' ' >calls
     [ "$(cat calls)" = "$1 " ] || fail "calls: $(cat calls)"
 }
 
@@ -179,25 +179,77 @@ if [ -n "$witness" ]; then
     says "flexbox: disk: "
     ! grep -F .flexbox- err || fail "a file that is gone is named"
 
-    # ---- of a file that get could not write whole nothing is left
+    # ---- get writes files as images are saved: cut or failing at any moment, there is the old file or the new one, whole, or none
+    # given OLD PLACING ARGUMENT..: get of NORTH.TXT to 'there', which is OLD before, or is not there; the PLACING-th call puts it there
+    given() {
+        local old=$1 placing=$2 i expected
+        shift 2
+        does get disk NORTH.TXT
+        cp out new
+        for i in 1 2 3 4; do
+            for how in STOP FAIL; do
+                expected=$old
+                [ $i -le "$placing" ] || expected=new
+                rm -f there .flexbox-*.new
+                [ -z "$old" ] || cp "$old" there
+                witnessed WITNESS_$how=$i -- "$@"
+                [ "$status" = "$([ $how = STOP ] && echo 99 || echo 3)" ] || fail "status $status at call $i of get: $(cat err)"
+                if [ -n "$expected" ]; then cmp there "$expected"; else [ ! -e there ] || fail "a part of a file is left"; fi
+                left=$(find . -name '*.new')
+                [ $how = STOP ] || [ -z "$left" ] || fail "left behind by get: $left"
+            done
+        done
+        rm -f there .flexbox-*.new
+        [ -z "$old" ] || cp "$old" there
+        witnessed -- "$@"
+        [ "$status" = 0 ] || fail "status $status of get: $(cat err)"
+        cmp there new
+    }
     fresh
+    given "" 3 get disk NORTH.TXT=there
+    calls_are "open disk share disk read disk open . make 666 NEW write NEW sync NEW move there sync $folder"
     witnessed WITNESS_FAIL=1 -- get disk NORTH.TXT=part
-    [ "$status" = 3 ] || fail "status $status after get could not write"
-    grep -q '^flexbox: part: No space left' err || fail "the file is not named: $(cat err)"
-    [ ! -e part ] || fail "a part of a file is left"
+    says "flexbox: part: not written: the new file could not be written beside it: No space left"
+    echo old >was
+    given was 3 get --replace disk NORTH.TXT=there
+    calls_are "open disk share disk read disk open $folder make 600 NEW write NEW sync NEW rename unlocked there sync $folder"
 
-    # ---- and one that it was to replace stays
-    echo old >there
-    for failing in 1 2; do
-        witnessed WITNESS_FAIL=$failing -- get --replace disk NORTH.TXT=there
-        [ "$status" = 3 ] || fail "status $status after call $failing of get --replace failed"
-        [ "$(cat there)" = old ] || fail "the file that was to be replaced is lost"
-        left=$(find . -name '*.new')
-        [ -z "$left" ] || fail "left behind by get --replace: $left"
-    done
-    does get --replace disk NORTH.TXT=there
-    does get disk NORTH.TXT
-    cmp out there
+    # ---- what a flexbox that is gone has left beside an image: check tells of it, and the next change of that image removes it and says so
+    fresh
+    cp disk other
+    witnessed WITNESS_STOP=2 -- delete disk NORTH.TXT
+    left=$(basename "$(find . -name '*.new')")
+    [[ $left == .flexbox-*-0-disk.new ]] || fail "not left: $left"
+    touch .flexbox-$$-0-disk.new # of a process that is running: this one
+    does check disk
+    shows "  left by a flexbox that is gone: $left; the next change of the image removes it"
+    [ "$(grep -c 'left by' out)" = 1 ] || fail "told of another: $(cat out)"
+    does check --json disk
+    shows "\"left_behind\":[\"$left\"]"
+    does check other
+    hides "left by"
+    does delete other NORTH.TXT
+    does put other NEW.TXT <<<new
+    [ -e "$left" ] || fail "removed by the change of another image"
+    ln -s disk link
+    warns "flexbox: link: $left, left by a flexbox that is gone, is removed" rename link NORTH.TXT WEST.TXT
+    [ ! -e "$left" ] && [ -e .flexbox-$$-0-disk.new ] || fail "not the right ones removed: $(ls -A)"
+    does check disk
+    hides "left by"
+    does rename disk WEST.TXT EAST.TXT
+    rm link .flexbox-$$-0-disk.new
+    fresh
+    patch "$(sector 1 6)" 0 0
+    witnessed WITNESS_STOP=2 -- repair --yes disk
+    left=$(basename "$(find . -name '*.new')")
+    ends 1 "" check disk
+    shows "left by a flexbox that is gone: $left;"
+    status=0
+    "${flexbox[@]}" repair --yes disk >out 2>err || status=$?
+    checks=$((checks + 1))
+    [ "$status" = 1 ] && [ ! -e "$left" ] || fail "status $status after a repair, left: $(ls -A)"
+    says "flexbox: disk: $left, left by a flexbox that is gone, is removed"
+    rm disk.before
 else
     echo "flexbox: no compiler here: the order of write, sync and rename was not tried"
 fi

@@ -12,6 +12,7 @@ mod failure;
 mod image;
 mod input;
 mod json;
+mod leftovers;
 mod page;
 mod plan;
 mod raw;

@@ -4,8 +4,11 @@ use super::{look, plural, print, print_json, refused_of};
 use crate::check::{check, Check, Unreached};
 use crate::failure::Failure;
 use crate::json;
+use crate::leftovers;
 use crate::words::Words;
 use std::fmt::Write;
+use std::fs;
+use std::path::PathBuf;
 
 /// A pass for each rule of the census, in its order.
 const PASSES: [(u8, &str); 5] = [
@@ -20,14 +23,22 @@ const PASSES: [(u8, &str); 5] = [
 pub fn run(words: &Words) -> Result<(), Failure> {
     let mut diskette = look(words)?;
     let check = check(&mut diskette).map_err(refused_of(words, &diskette))?;
+    let left = left_behind(words);
     match words.has("--json") {
-        true => print_json(&as_json(words, &check))?,
-        false => print(as_text(words, &check).as_bytes())?,
+        true => print_json(&as_json(words, &check, &left))?,
+        false => print(as_text(words, &check, &left).as_bytes())?,
     }
     check.verdict.map_err(|_| Failure::Shown)
 }
 
-fn as_text(words: &Words, check: &Check) -> String {
+/// The names of new files that a flexbox which is gone has left beside the image.
+fn left_behind(words: &Words) -> Vec<String> {
+    let path = fs::canonicalize(words.image()).unwrap_or_else(|_| words.image().to_path_buf());
+    let name = |left: &PathBuf| left.file_name().unwrap_or_default().to_string_lossy().into_owned();
+    leftovers::beside(&path).iter().map(name).collect()
+}
+
+fn as_text(words: &Words, check: &Check, left: &[String]) -> String {
     let mut text = String::new();
     for (i, (number, what)) in PASSES.iter().enumerate() {
         let _ = writeln!(text, "Pass {}: {}", i + 1, what);
@@ -39,6 +50,9 @@ fn as_text(words: &Words, check: &Check) -> String {
         }
     }
     text.push_str(&unreached(check));
+    for name in left {
+        let _ = writeln!(text, "  left by a flexbox that is gone: {}; the next change of the image removes it", name);
+    }
     text.push_str(&last_line(words, check));
     text
 }
@@ -69,7 +83,7 @@ pub fn last_line(words: &Words, check: &Check) -> String {
     }
 }
 
-pub fn as_json(words: &Words, check: &Check) -> String {
+pub fn as_json(words: &Words, check: &Check, left: &[String]) -> String {
     let findings = check.findings.iter().map(|finding| {
         json::Object::new()
             .with("number", finding.number)
@@ -90,6 +104,7 @@ pub fn as_json(words: &Words, check: &Check) -> String {
         .with("directory_sectors", check.directory_sectors())
         .with("findings", json::list(findings))
         .with("unreached", json::list(check.unreached.iter().map(unreached_as_json)))
+        .with("left_behind", json::list(left.iter().map(|name| json::text(name))))
         .end()
 }
 

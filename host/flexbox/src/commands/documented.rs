@@ -62,7 +62,10 @@ fn printed(command: &str, image: Vec<u8>) -> Option<String> {
     match command {
         "list" => Some(list::as_json(&words, &diskette.slots().ok()?)),
         "info" => Some(info::as_json(&words, &record, &crate::check::check(&mut diskette).unwrap())),
-        "check" => Some(check::as_json(&words, &crate::check::check(&mut diskette).unwrap())),
+        "check" => {
+            let left = ["left".to_string()];
+            Some(check::as_json(&words, &crate::check::check(&mut diskette).unwrap(), &left))
+        }
         _ => Some(census::as_json(&words, shape, &diskette.survey())),
     }
 }

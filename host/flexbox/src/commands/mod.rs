@@ -55,13 +55,29 @@ pub fn print(bytes: &[u8]) -> Result<(), Failure> {
     try_print(bytes).map_err(Failure::File)
 }
 
-/// What failed is given in words, to which a command can add what it has done by then.
+/// Where somebody needs every byte, one who does not read on is a failure, too.
+fn print_all(bytes: &[u8]) -> Result<(), Failure> {
+    write_out(bytes).map_err(|error| Failure::File(unprinted(error)))
+}
+
+/// What failed is given in words, to which a command can add what it has done by then. A reader who has seen enough is no failure.
 fn try_print(bytes: &[u8]) -> Result<(), String> {
-    let mut out = io::stdout();
-    match out.write_all(bytes).and_then(|()| out.flush()) {
-        Err(error) if error.kind() != io::ErrorKind::BrokenPipe => Err(format!("standard output: {}", error)),
+    match write_out(bytes) {
+        Err(error) if error.kind() != io::ErrorKind::BrokenPipe => Err(unprinted(error)),
         _ => Ok(()),
     }
+}
+
+fn unprinted(error: io::Error) -> String {
+    format!("standard output: {}", error)
+}
+
+fn write_out(bytes: &[u8]) -> io::Result<()> {
+    if posix::output_was_closed() {
+        return Err(io::Error::new(io::ErrorKind::Other, "it is closed"));
+    }
+    let mut out = io::stdout();
+    out.write_all(bytes).and_then(|()| out.flush())
 }
 
 fn print_json(json: &str) -> Result<(), Failure> {
