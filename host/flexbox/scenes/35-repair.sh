@@ -60,7 +60,7 @@ printf '%s\n' "disk: DAMAGED, 2 findings: DISK ERROR #046: a sector is in no cha
     "  free: 20 sectors, 1 of them found again, which was in no chain" \
     "  lost: up to 1 sector of 1 file" \
     "POWER.TXT is rightly chained, and would be cut for NORTH.TXT (slot 2, at 0,5 byte 40), which comes before it." \
-    "  to keep all of POWER.TXT and lose NORTH.TXT: flexbox delete --force disk NORTH.TXT, and repair then" \
+    "  to keep all of POWER.TXT and lose NORTH.TXT: flexbox repair --drop NORTH.TXT disk" \
     "  to keep what both have now: flexbox get --force disk POWER.TXT=FILE before, flexbox put --replace disk POWER.TXT=FILE afterwards" \
     "a dry run: nothing is written" >expected
 diff expected out || fail "another report"
@@ -78,7 +78,8 @@ head -n -1 dry | diff - <(head -n -1 out) || fail "the repair tells something el
 keeps SOUTH.TXT
 does get disk POWER.TXT
 [ "$(wc -c <out)" = 252 ] || fail "POWER.TXT has $(wc -c <out) bytes"
-"${flexbox[@]}" get "$demo" POWER.TXT | head -c 252 | cmp - out
+"${flexbox[@]}" get "$demo" POWER.TXT >whole
+head -c 252 whole | cmp - out
 does repair disk
 cmp disk.before old
 
@@ -181,10 +182,60 @@ does get "$demo" POWER.TXT
 cmp out power
 does check disk
 accident
-warns "" delete --force disk NORTH.TXT
+mends --drop NORTH.TXT disk
+shows "NORTH.TXT is dropped first"
+shows "  46 sector 2,7 is held by NORTH.TXT"
+hides "rightly chained"
+hides "lost:"
+keeps SOUTH.TXT POWER.TXT
+does list disk
+hides NORTH.TXT
+accident
+rm -f disk.before
+warns "its census: 046 a sector is in no chain, or in two; the old image is disk.before" delete --force disk NORTH.TXT
 mends disk
 hides "rightly chained"
 keeps SOUTH.TXT POWER.TXT
+
+# ---- a file that is dropped: by its name with or without TXT, several, one of two of one name; and who can't be
+accident
+ends 1 "" repair --dry-run --drop NORTH disk
+shows "NORTH.TXT is dropped first"
+mends --drop POWER.TXT --drop NORTH.TXT disk
+keeps SOUTH.TXT
+does list disk
+shows "1 file in "
+fresh
+patch "$(slot 3)" 78 79 82 84 72
+mends --drop NORTH.TXT disk
+keeps POWER.TXT
+"${flexbox[@]}" get "$demo" SOUTH.TXT >south
+does get disk NORTH.TXT
+cmp out south
+accident
+ends 2 "flexbox: disk: not changed, since NONE.TXT can't be dropped: 004 name not found" repair --drop NONE.TXT disk
+ends 2 "9.TXT can't be dropped: 021" repair --drop 9.TXT disk
+ends 2 "at most 8 characters" repair --drop NINECHARS.TXT disk
+patch $(($(slot 2) + 11)) 64
+ends 2 "NORTH.TXT can't be dropped: 012" repair --drop NORTH.TXT disk
+# Another file that would lose something is asked about all the same.
+accident
+patch "$(sector 1 5)" 0 0
+ends 2 "not changed, since 1 file would lose up to 4 sectors: SOUTH.TXT (6 to 2 sectors)" repair --drop NORTH.TXT disk </dev/null
+fresh
+ends 2 "flexbox: disk: nothing is wrong with it, so no file is dropped; flexbox delete deletes one" repair --drop NORTH.TXT disk
+# A name that a shell would split is told in quotes, and so it works.
+accident
+mv disk "my disk"
+status=0
+"${flexbox[@]}" repair --dry-run "my disk" >out || status=$?
+way=$(sed -n 's/.*lose NORTH.TXT: flexbox //p' out)
+[ "$way" = "repair --drop NORTH.TXT 'my disk'" ] || fail "the way out is told as: $way"
+status=0
+eval '"${flexbox[@]}"' "$way" >out || status=$?
+[ "$status" = 1 ] || fail "status $status of the way out"
+checks=$((checks + 2))
+rm "my disk" "my disk.before"
 
 # ---- a sound file behind a damaged one that runs into it: both are named, and it is asked
 fresh

@@ -16,7 +16,7 @@ closed_folder() {
     chmod 500 closed
     refuses 3 "flexbox: closed/disk: not changed: a new image can't be made in its folder: Permission denied" \
         put closed/disk NEW.TXT <lines
-    refuses 3 "flexbox: closed/disk: not changed: a new image can't be made in its folder: Permission denied" \
+    refuses 3 "closed/disk: not changed, since the old image is not kept: a new image can't be made in its folder: Permission denied" \
         format --replace closed/disk
     refuses 3 "flexbox: closed/new: not made: a new image can't be made in its folder: Permission denied" format closed/new
     cmp closed/disk "$demo"
@@ -45,7 +45,7 @@ does delete link NORTH.TXT
 does list disk
 hides NORTH.TXT
 fresh
-refuses 3 "flexbox: link: it is there already; --replace would replace it, and all files on it would be lost" format link
+refuses 3 "flexbox: link: it is there already; --replace would make a blank one, and keep this one beside it" format link
 does format --replace link
 [ -L link ] || fail "the link was replaced"
 does check disk
@@ -180,7 +180,10 @@ mv disk "$long"
 does put "$long" NEW.TXT <lines
 rm "$long"
 does format "$long"
-does format --replace "$long"
+does put "$long" NEW.TXT <lines
+refuses 3 "$long.before: the old image is not kept, nor changed: File name too long" format --replace "$long"
+does check "$long"
+shows ": clean, 1 file"
 rm "$long"
 refuses 3 "flexbox: ${long}d: File name too long" format "${long}d"
 

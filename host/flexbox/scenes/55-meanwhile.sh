@@ -97,6 +97,8 @@ if [ -n "$witness" ]; then
     ended 0
     does check disk
     shows "disk: clean, 0 files"
+    cmp disk.before other.before
+    rm disk.before
     fresh
     witnessed WITNESS_AT_LOCK="disk gone" -- format --replace disk
     ended 3
@@ -174,10 +176,8 @@ if [ -n "$witness" ]; then
         grep -qx 'share disk' log || fail "not looked at under the shared lock: $(cat log)"
     done
     cp old disk
-    # format --replace has not read it, whatever it holds
-    witnessed WITNESS_STORE=1 -- format --replace disk
-    ended 0
-    does check disk
+    stored 6 format --replace disk
+    stored 6 delete --force disk NORTH.TXT
 
     # ---- on a file system without locks one looks all the same, and changes nothing
     fresh

@@ -57,11 +57,9 @@ if [ -n "$witness" ]; then
     whole old 3 4 delete disk NORTH.TXT
     calls_are "open disk lock disk read disk open $folder make 600 NEW write NEW sync NEW read disk rename disk sync $folder"
 
-    # ---- format --replace does the same without reading it
-    does format --replace --date 12-03-81 disk
+    rm disk
+    does format --date 12-03-81 disk
     cp disk new
-    whole old 3 4 format --replace --date 12-03-81 disk
-    calls_are "open disk lock disk open $folder make 600 NEW write NEW sync NEW rename disk sync $folder"
 
     # ---- a new image is put there by a rename that replaces nothing; where the file system has none, by a link
     whole "" 3 4 format --date 12-03-81 disk
@@ -70,45 +68,58 @@ if [ -n "$witness" ]; then
     calls_are "open . make 666 NEW write NEW sync NEW move disk link disk remove NEW sync $folder"
     [ "$(stat -c %h disk)" = 1 ] || fail "the new image has two names"
 
-    # ---- repair keeps the old image first, by a rename that replaces nothing, synced, and only then puts the new one in place. Cut at any
-    # moment, it leaves the old image or the new one, and the old one beside it before it is gone; where it fails, no second old one stays
+    # ---- repair, format --replace and what --force changes keep the old image first, by a rename that replaces nothing, synced, and only
+    # then put the new one in place. Cut at any moment, they leave the old image or the new one, and the old one beside it before it is
+    # gone; where they fail, no second old one stays
     # kept COUNT: after so many of its calls the old image is there under both names, and no more
     kept() {
         if [ "$1" -ge 3 ]; then cmp disk.before old; else [ ! -e disk.before ] || fail "kept after $1 calls"; fi
+    }
+    # keeping STATUS ARGUMENT..: a command that makes another image of 'old', and ends so
+    keeping() {
+        local ends=$1 i there left
+        shift
+        begin old
+        rm -f disk.before
+        witnessed -- "$@"
+        [ "$status" = "$ends" ] || fail "status $status: $*: $(cat err)"
+        cp disk new
+        for i in 1 2 3 4 5 6 7 8; do
+            there=old
+            [ $i -le 7 ] || there=new
+            begin old
+            rm -f disk.before
+            witnessed WITNESS_STOP=$i -- "$@"
+            [ "$status" = 99 ] || fail "not cut before call $i: $*"
+            is $there
+            kept $((i - 1))
+            begin old
+            rm -f disk.before
+            witnessed WITNESS_FAIL=$i -- "$@"
+            [ "$status" = 3 ] || fail "status $status after call $i failed: $*"
+            is $there
+            left=$(find . -name '*.new')
+            [ -z "$left" ] || fail "left behind: $left: $*"
+            if [ $i = 8 ]; then
+                cmp disk.before old
+                says "the new image is in place, but its folder could not be synced: Input/output error (os error 5); the old image is disk.before"
+            else
+                [ ! -e disk.before ] || fail "kept though call $i failed: $*"
+            fi
+        done
     }
     begin ""
     fresh
     patch "$(sector 1 6)" 0 0
     cp disk old
-    ends 1 "" repair --dry-run disk
-    status=0
-    "${flexbox[@]}" repair --yes disk >out || status=$?
-    [ "$status" = 1 ] || fail "status $status after a repair"
-    cp disk new
+    saving="open . make 600 NEW write NEW sync NEW read disk move disk.before sync $folder open $folder make 600 NEW write NEW sync NEW read disk rename disk sync $folder"
+    keeping 0 format --replace --date 12-03-81 disk
+    begin old
     rm disk.before
-    for i in 1 2 3 4 5 6 7 8; do
-        there=old
-        [ $i -le 7 ] || there=new
-        begin old
-        rm -f disk.before
-        witnessed WITNESS_STOP=$i -- repair --yes disk
-        [ "$status" = 99 ] || fail "a repair was not cut before call $i"
-        is $there
-        kept $((i - 1))
-        begin old
-        rm -f disk.before
-        witnessed WITNESS_FAIL=$i -- repair --yes disk
-        [ "$status" = 3 ] || fail "status $status after call $i of a repair failed"
-        is $there
-        left=$(find . -name '*.new')
-        [ -z "$left" ] || fail "left behind by repair: $left"
-        if [ $i = 8 ]; then
-            cmp disk.before old
-            says "the new image is in place, but its folder could not be synced: Input/output error (os error 5); the old image is disk.before"
-        else
-            [ ! -e disk.before ] || fail "kept though call $i failed"
-        fi
-    done
+    witnessed -- format --replace --date 12-03-81 disk
+    calls_are "open disk lock disk read disk $saving"
+    keeping 0 delete --force disk NORTH.TXT
+    keeping 1 repair --yes disk
     begin old
     rm -f disk.before
     witnessed WITNESS_FAIL=1 -- repair --yes disk
@@ -118,7 +129,7 @@ if [ -n "$witness" ]; then
     witnessed -- repair --yes disk
     [ "$status" = 1 ] || fail "status $status after a repair under the witness"
     is new
-    calls_are "open disk share disk read disk open disk lock disk read disk open . make 600 NEW write NEW sync NEW read disk move disk.before sync $folder open $folder make 600 NEW write NEW sync NEW read disk rename disk sync $folder"
+    calls_are "open disk share disk read disk open disk lock disk read disk $saving"
     rm disk.before
     # ---- a repair that a cut broke off between the two is made again, and keeps the old image once more
     begin old
@@ -149,6 +160,7 @@ if [ -n "$witness" ]; then
     begin old
     does format --replace --date 12-03-81 disk
     cp disk new
+    rm disk.before
 
     # ---- where the first name can't be removed, the image is in place and synced all the same; it is not changed before it has one
     # name again, and that is what is said

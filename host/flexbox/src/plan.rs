@@ -2,6 +2,7 @@
 //! decides what a file keeps.
 
 use crate::check::{self, Check, Owner, Unreached};
+use crate::commands::dropping::drop_file;
 use flex::{Address, Diskette, Entry, Held, Name, Refusal, Slot, OWNER_DIRECTORY, OWNER_FREE};
 
 /// What is wrong, and what comes out.
@@ -44,8 +45,8 @@ pub struct Loss {
 
 /// How one who wants a file whole that would be cut can have it, as far as trying it on a copy tells.
 pub struct WaysOut {
-    /// By deleting the file that it would be cut for, before the repair.
-    pub delete: Option<Name>,
+    /// By giving up the file that it would be cut for.
+    pub drop: Option<Name>,
     /// By reading it before the repair and writing it anew afterwards.
     pub save: bool,
 }
@@ -170,15 +171,15 @@ impl Fate {
             _ => None,
         };
         WaysOut {
-            delete: earlier.filter(|name| self.is_whole_without(name, plan, image)),
+            drop: earlier.filter(|name| self.is_whole_without(name, plan, image)),
             save: self.is_saved_by_hand(image),
         }
     }
 
-    /// Whether the file keeps all its sectors where that other one is deleted first.
+    /// Whether the file keeps all its sectors where that other one is dropped.
     fn is_whole_without(&self, other: &Name, plan: &Plan, image: &[u8]) -> bool {
         let mut copy = Diskette::new(image.to_vec());
-        let held = copy.delete(other).and_then(|()| copy.repair()).and_then(|()| copy.survey());
+        let held = drop_file(&mut copy, other).and_then(|_| copy.repair()).and_then(|()| copy.survey());
         let chain = plan.check.chains.iter().find(|(owner, _)| *owner == Owner::File(self.slot));
         let (held, chain) = match (held, chain) {
             (Ok(held), Some((_, chain))) => (held, chain),

@@ -22,6 +22,14 @@ pub fn slots(image: &[u8], shape: Shape, sector: Address) -> impl Iterator<Item 
     })
 }
 
+/// The 24 bytes of the slot at this place, which must be in the image.
+pub fn slot(image: &[u8], shape: Shape, place: Place) -> [u8; SLOT] {
+    let at = shape.offset(place.sector) + place.displacement as usize;
+    let mut slot = [0; SLOT];
+    slot.copy_from_slice(&image[at..at + SLOT]);
+    slot
+}
+
 /// What the 24 bytes of a slot say, as the service reads them.
 pub fn state(slot: &[u8]) -> State {
     match slot[0] {

@@ -103,6 +103,11 @@ impl Words {
         self.options.iter().rev().find(|(name, _)| *name == option).and_then(|(_, value)| value.as_deref())
     }
 
+    /// All values of an option that can be typed several times.
+    pub fn values<'a>(&'a self, option: &'a str) -> impl Iterator<Item = &'a OsString> {
+        self.options.iter().filter(move |(name, _)| *name == option).filter_map(|(_, value)| value.as_ref())
+    }
+
     /// The number that is the value of an option, within its limits.
     pub fn number(&self, option: &str, what: &str, limits: RangeInclusive<u16>) -> Result<Option<u16>, Failure> {
         let number = |value: &OsStr| value.to_str()?.parse().ok().filter(|number| limits.contains(number));
@@ -143,4 +148,33 @@ impl Words {
 
 pub fn text(word: &OsString) -> Result<&str, Failure> {
     word.to_str().ok_or_else(|| Failure::Usage(format!("'{}' is no text", word.to_string_lossy())))
+}
+
+/// A word as one would have to type it in a shell.
+pub fn quoted(word: &str) -> String {
+    let is_plain = |byte: u8| byte.is_ascii_alphanumeric() || b"_./,:@%+-=".contains(&byte);
+    match word.bytes().all(is_plain) && !word.is_empty() {
+        // What begins with a hyphen would be an option.
+        true if word.starts_with('-') => format!("./{}", word),
+        true => word.to_string(),
+        false => format!("'{}'", word.replace('\'', "'\\''")),
+    }
+}
+
+#[cfg(test)]
+mod tests {
+    use super::*;
+
+    #[test]
+    fn a_shell_takes_what_is_quoted_as_one_word() {
+        assert_eq!(quoted("disks/a.dsk"), "disks/a.dsk");
+        assert_eq!(quoted("my disk"), "'my disk'");
+        assert_eq!(quoted("it's $HOME"), "'it'\\''s $HOME'");
+        assert_eq!(quoted("--x"), "./--x");
+        assert_eq!(quoted(""), "''");
+        for word in ["a b", "a'b", "a\"b", "a\\b", "$(a)", "*", "a;b", "~", "a\nb", "\u{e4}", "#", "!"] {
+            let told = std::process::Command::new("sh").arg("-c").arg(format!("printf %s {}", quoted(word))).output();
+            assert_eq!(String::from_utf8(told.unwrap().stdout).unwrap(), word);
+        }
+    }
 }

@@ -7,10 +7,10 @@ mod directory;
 mod sectors;
 mod unreached;
 
+pub use chain::{Chain, Fault};
 pub use sectors::{file, holder, Owner};
 pub use unreached::Unreached;
 
-use chain::Chain;
 use flex::{Address, Diskette, Refusal, Shape, Slot};
 use std::fmt;
 
@@ -85,10 +85,7 @@ fn taken(directory: &[Address]) -> impl Iterator<Item = Address> + '_ {
 
 /// The free chain, then the live files', as they are stated.
 fn stated(image: &[u8], slots: &[Slot]) -> Vec<Chain> {
-    let files = slots.iter().filter_map(|slot| {
-        let entry = slot.entry()?;
-        Some(Chain { owner: Owner::File(slot.number), start: entry.start, end: entry.end, count: entry.sectors })
-    });
+    let files = slots.iter().filter_map(|slot| slot.entry().map(|entry| Chain::of_file(slot.number, entry)));
     [Chain::free(image)].into_iter().chain(files).collect()
 }
 

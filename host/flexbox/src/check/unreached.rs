@@ -37,9 +37,9 @@ pub fn files(image: &[u8], shape: Shape, directory: &[Address], owners: &[Vec<Ow
     let is_loose = |&address: &Address| owners[shape.number(address)].is_empty();
     files
         .map(|(place, entry)| {
-            // No owner of its own: it has no slot of the directory.
-            let chain = Chain { owner: Owner::Free, start: entry.start, end: entry.end, count: entry.sectors };
-            let loose = chain.walk(image, shape).sectors.iter().filter(|&at| is_loose(at)).count();
+            // It has no slot of the directory, so no number.
+            let walked = Chain::of_file(0, &entry).walk(image, shape);
+            let loose = walked.sectors.iter().filter(|&at| is_loose(at)).count();
             Unreached { place, entry, loose }
         })
         .collect()

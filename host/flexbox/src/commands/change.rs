@@ -16,17 +16,32 @@ const TOLD: usize = 8;
 /// A change of the image that is saved only if no part of it was refused and the census accepts what comes out.
 pub fn change(words: &Words, work: impl FnOnce(&mut Diskette) -> Result<(), Failure>) -> Result<(), Failure> {
     let mut image = Image::take(words.image(), words.wait())?;
-    let mut diskette = Diskette::new(image.read()?);
+    let old = image.read()?;
+    let mut diskette = Diskette::new(old.clone());
     let was_sound = accept(words, &mut diskette)?;
     work(&mut diskette)?;
     match diskette.survey() {
-        Ok(_) => {}
         Err(refusal) if was_sound => {
-            return Err(refused(words.image(), "after the change, which is therefore not saved")(refusal));
+            Err(refused(words.image(), "after the change, which is therefore not saved")(refusal))
         }
-        Err(refusal) => note(&format!("{}: saved by --force; its census: {}", words.image().display(), refusal)),
+        _ if was_sound => image.save(diskette.image()),
+        survey => save_forced(words, image, &old, &diskette, survey.err()),
     }
-    image.save(diskette.image())
+}
+
+/// What was changed though it was damaged may have lost sound files: the old image is kept.
+fn save_forced(
+    words: &Words,
+    image: Image,
+    old: &[u8],
+    diskette: &Diskette,
+    refusal: Option<Refusal>,
+) -> Result<(), Failure> {
+    let kept = image.save_keeping(old, diskette.image())?;
+    let census = refusal.map_or("accepted".to_string(), |refusal| refusal.to_string());
+    let disk = words.image().display();
+    note(&format!("{}: saved by --force; its census: {}; the old image is {}", disk, census, kept.display()));
+    Ok(())
 }
 
 /// Whether the census accepts the diskette as it is. Where it does not, only `--force` goes on, and says so.

@@ -8,6 +8,7 @@ mod date;
 mod demo;
 #[cfg(test)]
 mod documented;
+pub mod dropping;
 mod dump;
 mod format;
 mod get;
@@ -18,6 +19,7 @@ mod put;
 mod repair;
 mod report;
 mod table;
+mod undelete;
 
 pub use table::{find, overview};
 
@@ -35,6 +37,15 @@ fn look(words: &Words) -> Result<Diskette, Failure> {
 
 fn typed(name: &str) -> Result<Name, Failure> {
     name.parse().map_err(|error: flex::NameTooLong| Failure::Usage(error.to_string()))
+}
+
+/// The name as the service takes it: with TXT where it has no extension.
+fn full(name: &Name) -> Name {
+    let mut bytes = *name.bytes();
+    if !name.has_extension() {
+        bytes[8..].copy_from_slice(b"TXT");
+    }
+    Name::of(bytes)
 }
 
 /// What a refusal is told with: the image, and what was asked of it.

@@ -4,7 +4,7 @@
 //! file, `get --files disk NIGHT.TXT` makes the file NIGHT.TXT in the current folder. One NAME.EXT alone is standard input
 //! or output.
 
-use super::typed;
+use super::{full, typed};
 use crate::failure::Failure;
 use crate::words::{text, Words};
 use flex::Name;
@@ -59,15 +59,6 @@ fn of_path(word: &OsString) -> Result<Piece, Failure> {
         return Err(Failure::Usage(format!("'{}': {}", word.to_string_lossy(), why)));
     }
     Ok(Piece { name: typed(&shown)?, shown, file: Some(PathBuf::from(word)) })
-}
-
-/// The name as the service takes it: with TXT where it has no extension.
-fn full(name: &Name) -> [u8; 11] {
-    let mut bytes = *name.bytes();
-    if !name.has_extension() {
-        bytes[8..].copy_from_slice(b"TXT");
-    }
-    bytes
 }
 
 fn os(bytes: &[u8]) -> OsString {

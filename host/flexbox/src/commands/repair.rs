@@ -2,13 +2,15 @@
 //!
 //! Exit status: 0 nothing was wrong, and nothing is written; 1 repaired; 2 not repaired, with the reason.
 
-use super::{check, plural, print, try_print};
-use crate::check::{file, holder, Owner};
+use super::check as report;
+use super::dropping::drop_file;
+use super::{full, plural, print, try_print, typed};
+use crate::check::{self, file, holder, Check, Owner};
 use crate::failure::Failure;
 use crate::image::Image;
 use crate::input;
 use crate::plan::{vanishing, Fate, Plan, Repaired};
-use crate::words::Words;
+use crate::words::{quoted, text, Words};
 use flex::{Address, Diskette, Refusal};
 use std::fmt::Write;
 
@@ -20,14 +22,15 @@ pub fn run(words: &Words) -> Result<(), Failure> {
     };
     let old = image.read()?;
     let mut diskette = Diskette::new(old.clone());
-    let plan = Plan::of(&mut diskette).map_err(|refusal| unrepairable(words, refusal, ""))?;
-    print(check::last_line(words, &plan.check).as_bytes())?;
-    if plan.check.verdict.is_ok() {
-        return Ok(());
+    let found = check::check(&mut diskette).map_err(|refusal| unrepairable(words, refusal, ""))?;
+    print(told_first(words, &found).as_bytes())?;
+    if found.verdict.is_ok() {
+        return nothing_wrong(words);
     }
-    print((findings(&plan) + &check::unreached(&plan.check)).as_bytes())?;
+    let dropped = drop_files(words, &mut diskette)?;
+    let plan = Plan::of(&mut diskette).map_err(|refusal| unrepairable(words, refusal, ""))?;
     let repaired = plan.repaired.as_ref().map_err(|&refusal| unrepairable(words, refusal, &reason(&plan, refusal)))?;
-    print(told(words, &plan, repaired, &old).as_bytes())?;
+    print((dropped + &told(words, &plan, repaired, diskette.image())).as_bytes())?;
     if words.has("--dry-run") {
         print(b"a dry run: nothing is written\n")?;
         return Err(Failure::Shown);
@@ -35,6 +38,41 @@ pub fn run(words: &Words) -> Result<(), Failure> {
     agree(words, &plan, repaired)?;
     save(words, image.claim(words.wait())?, &old, repaired)?;
     Err(Failure::Shown)
+}
+
+/// What is wrong, before anything is done about it.
+fn told_first(words: &Words, found: &Check) -> String {
+    let line = report::last_line(words, found);
+    match found.verdict {
+        Ok(()) => line,
+        Err(_) => line + &findings(found) + &report::unreached(found),
+    }
+}
+
+/// A sound diskette is not written at all; one who wants a file gone from it has asked the wrong command.
+fn nothing_wrong(words: &Words) -> Result<(), Failure> {
+    match words.has("--drop") {
+        false => Ok(()),
+        true => {
+            let why = "nothing is wrong with it, so no file is dropped; flexbox delete deletes one";
+            Err(Failure::Unrepaired(format!("{}: {}", words.image().display(), why)))
+        }
+    }
+}
+
+/// The files that are given up, each told in a line.
+fn drop_files(words: &Words, diskette: &mut Diskette) -> Result<String, Failure> {
+    let mut lines = String::new();
+    for word in words.values("--drop") {
+        let typed_name = text(word)?;
+        let name = full(&typed(typed_name)?);
+        drop_file(diskette, &name).map_err(|refusal| {
+            let disk = words.image().display();
+            Failure::Unrepaired(format!("{}: not changed, since {} can't be dropped: {}", disk, typed_name, refusal))
+        })?;
+        let _ = writeln!(lines, "{} is dropped first", name);
+    }
+    Ok(lines)
 }
 
 /// Once it is saved, a line that can't be printed must not hide that.
@@ -60,8 +98,8 @@ fn reason(plan: &Plan, refusal: Refusal) -> String {
     }
 }
 
-fn findings(plan: &Plan) -> String {
-    plan.check.findings.iter().map(|finding| format!("  {} {}\n", finding.number, finding)).collect()
+fn findings(check: &Check) -> String {
+    check.findings.iter().map(|finding| format!("  {} {}\n", finding.number, finding)).collect()
 }
 
 /// What each file keeps, what is free then, and which sound files lose something.
@@ -124,17 +162,18 @@ fn why_cut(plan: &Plan, fate: &Fate) -> String {
 
 /// A sound file that would be cut: for whom, and what one can do about it before.
 fn wronged(words: &Words, plan: &Plan, fate: &Fate, image: &[u8]) -> String {
-    let (disk, name, other) = (words.image().display(), fate.entry.name, taker(plan, fate));
+    let (name, other) = (fate.entry.name, taker(plan, fate));
     let is_damaged =
         matches!(fate.holder, Some(Owner::File(slot)) if plan.check.of_slot(slot).any(|one| one.number == 45));
     let which = if is_damaged { "which is damaged and comes before it" } else { "which comes before it" };
     let mut text = format!("{} is rightly chained, and would be cut for {}, {}.\n", name, other, which);
     let ways = fate.ways_out(plan, image);
-    if let Some(earlier) = ways.delete {
+    let disk = quoted(&words.image().to_string_lossy());
+    if let Some(earlier) = ways.drop {
         let _ = writeln!(
             text,
-            "  to keep all of {} and lose {}: flexbox delete --force {} {}, and repair then",
-            name, earlier, disk, earlier
+            "  to keep all of {} and lose {}: flexbox repair --drop {} {}",
+            name, earlier, earlier, disk
         );
     }
     if ways.save {

@@ -1,6 +1,6 @@
 //! The table of commands, and the help that is made of it.
 
-use super::{census, change, check, demo, dump, format, get, info, list, put, repair, report};
+use super::{census, change, check, demo, dump, format, get, info, list, put, repair, report, undelete};
 use crate::words::Command;
 use std::fmt::Write;
 
@@ -76,7 +76,7 @@ pub const COMMANDS: &[Command] = &[
                   \x20 --files    each word is a FILE, and the last part of its path is the name on the diskette\n\
                   \x20 --replace  a file of that name is replaced; it is lost only once the new one is saved. A new file has no\n\
                   \x20            protection: where the old one was read-protected, that is said\n\
-                  \x20 --force    changes a damaged diskette, too, and says so; sound files may be lost\n",
+                  \x20 --force    changes a damaged diskette, too, and says so; the old image is kept as IMAGE.before\n",
         operands: (2, MANY),
         options: &["--files", "--replace", "--force"],
         run: put::run,
@@ -86,17 +86,31 @@ pub const COMMANDS: &[Command] = &[
         usage: "[--force] IMAGE NAME.EXT",
         summary: "delete a file",
         details: "Deletes the file; its sectors hang behind the free chain. Sectors of the directory are never given back.\n\
-                  \x20 --force    changes a damaged diskette, too, and says so; sound files may be lost\n",
+                  \x20 --force    changes a damaged diskette, too, and says so; sound files may be lost, so the old image is kept as\n\
+                  \x20            IMAGE.before. repair --drop is safer\n",
         operands: (2, 2),
         options: &["--force"],
         run: change::delete,
+    },
+    Command {
+        name: "undelete",
+        usage: "[--slot N] IMAGE [NAME.EXT]",
+        summary: "bring a deleted file back",
+        details: "Brings back a file whose sectors are still free, by the start, end and size of its slot: in their order, with rising\n\
+                  record numbers. A delete has overwritten the first letter; NAME.EXT has it, and must else be as it was.\n\
+                  Without NAME.EXT it lists the deleted slots and says which files can be brought back. Of a damaged diskette\n\
+                  nothing is brought back.\n\
+                  \x20 --slot     which slot, where several have that name but for the first letter\n",
+        operands: (1, 2),
+        options: &["--slot N"],
+        run: undelete::run,
     },
     Command {
         name: "rename",
         usage: "[--force] IMAGE OLD.EXT NEW.EXT",
         summary: "give a file a new name",
         details: "The new name must have an extension.\n\
-                  \x20 --force    changes a damaged diskette, too, and says so\n",
+                  \x20 --force    changes a damaged diskette, too, and says so; the old image is kept as IMAGE.before\n",
         operands: (3, 3),
         options: &["--force"],
         run: change::rename,
@@ -112,8 +126,8 @@ pub const COMMANDS: &[Command] = &[
                   \x20 --label    at most eleven characters of printable ASCII, filled up with zeros; otherwise none\n\
                   \x20 --volume   the volume number, 0 to 65535; otherwise 0\n\
                   \x20 --date     a day of the calendar, as 12-03-81 or 12-3-1981; otherwise today's, as put has it\n\
-                  \x20 --replace  an IMAGE that is there already is replaced, a damaged one too, and all files on it are lost; its\n\
-                  \x20            shape, label and volume number are not kept\n",
+                  \x20 --replace  an IMAGE that is there already is replaced, a damaged one too, with all files on it; it is kept as\n\
+                  \x20            IMAGE.before. The new one does not have its shape, label and volume number\n",
         operands: (1, 1),
         options: &[
             "--tracks N",
@@ -127,7 +141,7 @@ pub const COMMANDS: &[Command] = &[
     },
     Command {
         name: "repair",
-        usage: "[--dry-run] [--yes] IMAGE",
+        usage: "[--dry-run] [--yes] [--drop NAME.EXT].. IMAGE",
         summary: "mend a damaged diskette, and say what each file keeps",
         details: "Says what is wrong, then what the proved repair leaves: in the order of the slots each file keeps its chain as far as\n\
                   it goes over sectors that no earlier file has kept, at most as long as it is stated; all else is free. A file\n\
@@ -138,9 +152,10 @@ pub const COMMANDS: &[Command] = &[
                   Exit status 0: nothing was wrong, and nothing is written; 1: repaired; 2: not repaired, with the reason.\n\
                   \x20 --dry-run  only says what would be done; the exit status is the one that the repair has once it is agreed to\n\
                   \x20            and can be written\n\
-                  \x20 --yes      does not ask\n",
+                  \x20 --yes      does not ask\n\
+                  \x20 --drop     gives this file up first, so that another keeps what they share; can be typed several times\n",
         operands: (1, 1),
-        options: &["--dry-run", "--yes"],
+        options: &["--dry-run", "--yes", "--drop NAME.EXT"],
         run: repair::run,
     },
     Command {
@@ -208,9 +223,9 @@ repaired.
 pub fn overview() -> String {
     let mut text = String::from("usage: flexbox COMMAND ..\n\n");
     for command in COMMANDS {
-        let _ = writeln!(text, "  {:8} {}", command.name, command.summary);
+        let _ = writeln!(text, "  {:9} {}", command.name, command.summary);
     }
-    text.push_str("  help     show this, or more of one command; --version shows the version\n");
+    text.push_str("  help      show this, or more of one command; --version shows the version\n");
     text + REST
 }
 

@@ -103,7 +103,7 @@ fn a_way_out_is_told_where_it_is_one() {
         let (plan, image) = plan(stores);
         let fates = &plan.repaired.as_ref().unwrap().fates;
         let ways = fates[1].ways_out(&plan, &image);
-        (ways.delete.map(|name| name.to_string()), ways.save)
+        (ways.drop.map(|name| name.to_string()), ways.save)
     };
     let shared = [(offset(5, 1, 1), &[1, 5][..]), (slot(1) + 15, &[1, 5])];
     assert_eq!(ways(&shared), (Some("A.TXT".to_string()), true));
@@ -112,8 +112,8 @@ fn a_way_out_is_told_where_it_is_one() {
     assert_eq!(ways(&more(slot(1) + 11, &[128])), (None, true));
     assert_eq!(ways(&more(slot(2) + 11, &[32])), (Some("A.TXT".to_string()), false));
     assert_eq!(ways(&more(slot(1), &[1])), (None, true));
-    // The free chain ends in B, which a delete would therefore break.
-    assert_eq!(ways(&more(543, &[1, 3])), (None, true));
+    // The free chain ends in B, which a delete would break; to drop A does not touch it.
+    assert_eq!(ways(&more(543, &[1, 3])), (Some("A.TXT".to_string()), true));
     // However little is free by the record: a repair finds the rest.
     assert_eq!(ways(&more(541, &[2, 2, 2, 2, 0, 1])), (Some("A.TXT".to_string()), true));
 }
