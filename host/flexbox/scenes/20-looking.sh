@@ -78,7 +78,7 @@ does help
 shows "usage:"
 does --version
 grep -qx 'flexbox [0-9]*\.[0-9]*\.[0-9]*, flex [0-9]*\.[0-9]*\.[0-9]*' out || fail "the version: $(cat out)"
-for command in list info check census get put delete undelete rename format repair dump report demo; do
+for command in list info check census get put delete undelete rename format repair salvage dump report demo; do
     does help "$command"
     shows "usage: flexbox $command "
     does "$command" --help

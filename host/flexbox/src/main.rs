@@ -17,6 +17,7 @@ mod page;
 mod plan;
 mod raw;
 mod replace;
+mod salvage;
 mod words;
 
 use failure::Failure;

@@ -1,4 +1,5 @@
-//! A diskette's bytes read by themselves, where the service shows nothing: slots outside of the directory.
+//! A diskette's bytes read by themselves, where the service shows nothing: what has no right shape, slots outside of the directory, and
+//! record numbers.
 
 use flex::{
     Address, Entry, Name, Place, Shape, State, ATTRIBUTES, ATTRIBUTE_DELETE, ATTRIBUTE_READ, ATTRIBUTE_WRITE, DATE,
@@ -9,9 +10,33 @@ use flex::{
 pub const FIRST_OF_DIRECTORY: u8 = 5;
 /// Where the first slot begins in a sector of the directory.
 const FIRST_SLOT: usize = 16;
+/// In a slot: not 0 marks a random file, whose first sectors are its map and have no record number.
+const RANDOM: usize = 23 - NAME;
+/// In a sector: its record number, high byte first.
+const RECORD_NUMBER: usize = 2;
 /// The bytes of a name's first part, and of all of it.
 const STEM: usize = 8;
 const FULL: usize = 11;
+
+/// Whether a diskette can have this shape.
+pub fn is_shape(shape: Shape) -> bool {
+    (1..=79).contains(&shape.last) && (5..=36).contains(&shape.per)
+}
+
+/// The bytes of an image of this shape.
+pub fn length(shape: Shape) -> usize {
+    (shape.last as usize + 1) * shape.per as usize * SECTOR
+}
+
+/// The record number of a sector.
+pub fn record_number(image: &[u8], shape: Shape, sector: Address) -> u16 {
+    let at = shape.offset(sector) + RECORD_NUMBER;
+    u16::from_be_bytes([image[at], image[at + 1]])
+}
+
+pub fn is_random(slot: &[u8]) -> bool {
+    slot[RANDOM] != 0
+}
 
 /// The slots of a sector that begins here in the image, each with its place.
 pub fn slots(image: &[u8], shape: Shape, sector: Address) -> impl Iterator<Item = (Place, &[u8])> {

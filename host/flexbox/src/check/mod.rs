@@ -78,6 +78,11 @@ pub fn check(diskette: &mut Diskette) -> Result<Check, Refusal> {
     Ok(Check { shape, verdict, findings, slots, directory, chains, unreached })
 }
 
+/// The directory's sectors as far as its links are right.
+pub fn directory(image: &[u8], shape: Shape) -> Vec<Address> {
+    directory::walk(image, shape).0
+}
+
 /// The data sectors among those of the directory: it has taken them when it had no slot left.
 fn taken(directory: &[Address]) -> impl Iterator<Item = Address> + '_ {
     directory.iter().copied().filter(|address| address.track != 0)

@@ -1,7 +1,8 @@
 //! The fields that `--json` prints are those of the table in docs/HOST.md: every one of them, and no other.
 
-use super::{census, check, find, info, list};
+use super::{census, check, find, info, list, salvage};
 use crate::json::reading::{read, Value};
+use crate::salvage::Salvage;
 use crate::words::Words;
 use diskettes::{blank, offset};
 use flex::{Diskette, Shape};
@@ -55,11 +56,17 @@ fn images() -> Vec<Vec<u8>> {
 
 /// What a command prints of a diskette; None where `list` is refused.
 fn printed(command: &str, image: Vec<u8>) -> Option<String> {
-    let words = Words::parse(find(command).unwrap(), &["--json".into(), NAME.into()]).ok().flatten().unwrap();
+    let folder = (command == "salvage").then(|| "folder".into());
+    let typed: Vec<_> = ["--json".into(), NAME.into()].into_iter().chain(folder).collect();
+    let words = Words::parse(find(command).unwrap(), &typed).ok().flatten().unwrap();
     let mut diskette = Diskette::new(image);
     let record = info::Record::read(&mut diskette).unwrap();
     let shape = Shape::stated(diskette.image()).unwrap();
     match command {
+        "salvage" => {
+            let found = Salvage::of(diskette.image(), shape, false);
+            Some(salvage::as_json(&words, &found, &vec![String::new(); found.files.len()], 0))
+        }
         "list" => Some(list::as_json(&words, &diskette.slots().ok()?)),
         "info" => Some(info::as_json(&words, &record, &crate::check::check(&mut diskette).unwrap())),
         "check" => {
@@ -72,7 +79,7 @@ fn printed(command: &str, image: Vec<u8>) -> Option<String> {
 
 #[test]
 fn every_field_is_documented_and_every_documented_one_is_there() {
-    for command in ["list", "info", "check", "census"] {
+    for command in ["list", "info", "check", "census", "salvage"] {
         let mut fields = BTreeSet::new();
         for json in images().into_iter().filter_map(|image| printed(command, image)) {
             let value = read(&json);

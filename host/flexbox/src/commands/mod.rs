@@ -18,6 +18,7 @@ mod pieces;
 mod put;
 mod repair;
 mod report;
+mod salvage;
 mod table;
 mod undelete;
 
@@ -25,8 +26,9 @@ pub use table::{find, overview};
 
 use crate::failure::Failure;
 use crate::image::Image;
+use crate::raw;
 use crate::words::Words;
-use flex::{Diskette, Name, Refusal, LARGEST_IMAGE};
+use flex::{Diskette, Name, Refusal, Shape, LARGEST_IMAGE};
 use std::io::{self, Write};
 use std::path::Path;
 
@@ -56,10 +58,27 @@ fn refused<'a>(image: &'a Path, what: &'a str) -> impl Fn(Refusal) -> Failure + 
     }
 }
 
-/// The same of a diskette, whose image may be too large to be one.
+/// The same of a diskette, whose image may not be one by its length.
 fn refused_of<'a>(words: &'a Words, diskette: &Diskette) -> impl Fn(Refusal) -> Failure + 'a {
-    let what = if diskette.image().len() > LARGEST_IMAGE { "more than 737,280 bytes" } else { "" };
-    refused(words.image(), what)
+    let what = wrong_length(diskette.image());
+    move |refusal| refused(words.image(), &what)(refusal)
+}
+
+/// Which length an image has and which was expected; empty where it has the length of its shape.
+fn wrong_length(image: &[u8]) -> String {
+    let length = image.len();
+    match Shape::stated(image) {
+        _ if length > LARGEST_IMAGE => "more than 737,280 bytes".to_string(),
+        None => format!("{} bytes, too short for a diskette", length),
+        Some(Shape { last, per }) if !raw::is_shape(Shape { last, per }) => {
+            format!("{} bytes; it states tracks 0 to {} of {} sectors, which no diskette has", length, last, per)
+        }
+        Some(shape) if raw::length(shape) != length => {
+            let (Shape { last, per }, expected) = (shape, raw::length(shape));
+            format!("{} bytes; tracks 0 to {} of {} sectors, as it states, have {}", length, last, per, expected)
+        }
+        Some(_) => String::new(),
+    }
 }
 
 pub fn print(bytes: &[u8]) -> Result<(), Failure> {

@@ -4,7 +4,7 @@
 
 use super::check as report;
 use super::dropping::drop_file;
-use super::{full, plural, print, try_print, typed};
+use super::{full, plural, print, try_print, typed, wrong_length};
 use crate::check::{self, file, holder, Check, Owner};
 use crate::failure::Failure;
 use crate::image::Image;
@@ -22,7 +22,7 @@ pub fn run(words: &Words) -> Result<(), Failure> {
     };
     let old = image.read()?;
     let mut diskette = Diskette::new(old.clone());
-    let found = check::check(&mut diskette).map_err(|refusal| unrepairable(words, refusal, ""))?;
+    let found = check::check(&mut diskette).map_err(|refusal| unrepairable(words, refusal, &wrong_length(&old)))?;
     print(told_first(words, &found).as_bytes())?;
     if found.verdict.is_ok() {
         return nothing_wrong(words);
@@ -85,7 +85,14 @@ fn save(words: &Words, image: Image, old: &[u8], repaired: &Repaired) -> Result<
 
 fn unrepairable(words: &Words, refusal: Refusal, why: &str) -> Failure {
     let colon = if why.is_empty() { "" } else { ": " };
-    Failure::Unrepaired(format!("{}: not repairable: {}{}{}", words.image().display(), refusal, colon, why))
+    let way_out = match refusal {
+        Refusal::CensusNames => String::new(),
+        _ => {
+            let disk = quoted(&words.image().to_string_lossy());
+            format!("; flexbox salvage {} FOLDER saves what can be read", disk)
+        }
+    };
+    Failure::Unrepaired(format!("{}: not repairable: {}{}{}{}", words.image().display(), refusal, colon, why, way_out))
 }
 
 /// What one who reads the refusal needs to know of it.

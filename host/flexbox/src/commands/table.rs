@@ -1,6 +1,6 @@
 //! The table of commands, and the help that is made of it.
 
-use super::{census, change, check, demo, dump, format, get, info, list, put, repair, report, undelete};
+use super::{census, change, check, demo, dump, format, get, info, list, put, repair, report, salvage, undelete};
 use crate::words::Command;
 use std::fmt::Write;
 
@@ -157,6 +157,21 @@ pub const COMMANDS: &[Command] = &[
         operands: (1, 1),
         options: &["--dry-run", "--yes", "--drop NAME.EXT"],
         run: repair::run,
+    },
+    Command {
+        name: "salvage",
+        usage: "[--deleted] [--shape M,S] [--json] IMAGE FOLDER",
+        summary: "save all that can be read of a damaged image, or of what is none",
+        details: "Writes every file that a slot leads to, as far as its links lead, to FOLDER, which must be new or empty, and lists them:\n\
+                  whole, cut, runs on (into what is behind its stated size), other end, shared, out of order (by record numbers),\n\
+                  missing (behind the end of IMAGE, where zeros are read). Slots in sectors of track 0 that the directory does not\n\
+                  reach are used, too. Chains that no file holds become LOST0001.DAT and on. Read-protected files are given.\n\
+                  IMAGE can be any file, and is not changed. Exit status 0: all is whole; 1: something is not.\n\
+                  \x20 --deleted  deleted files, too; the first letter of their names is lost, and _ here\n\
+                  \x20 --shape    the last track and the sectors a track, where IMAGE does not state them rightly\n",
+        operands: (2, 2),
+        options: &["--deleted", "--shape M,S", "--json"],
+        run: salvage::run,
     },
     Command {
         name: "dump",

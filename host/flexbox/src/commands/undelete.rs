@@ -7,13 +7,9 @@ use crate::check::{Chain, Fault};
 use crate::failure::{note, Failure};
 use crate::raw;
 use crate::words::Words;
-use flex::{Address, Diskette, Entry, Name, Refusal, Shape, Slot, State, NAME, SECTOR, SLOT};
+use flex::{Address, Diskette, Entry, Name, Refusal, Shape, Slot, State, SECTOR, SLOT};
 use std::fmt::Write;
 
-/// In a slot: not 0 marks a random file, whose first sectors are its map and have no record number.
-const RANDOM: usize = 23 - NAME;
-/// In a sector: its record number, high byte first.
-const RECORD_NUMBER: usize = 2;
 /// In the information record, sector 0,3: first and last sector of the free chain, and how many it has.
 const INFORMATION: Address = Address::new(0, 3);
 const FIRST_FREE: usize = 29;
@@ -120,11 +116,11 @@ fn sectors(image: &[u8], shape: Shape, free: &[Address], slot: &[u8; SLOT]) -> R
     }
     let walked = Chain::of_file(0, &entry).walk(image, shape);
     for (i, &at) in walked.sectors.iter().enumerate() {
-        let number = u16::from_be_bytes([0, 1].map(|byte| image[shape.offset(at) + RECORD_NUMBER + byte]));
+        let number = raw::record_number(image, shape, at);
         if !free.contains(&at) {
             return Err(format!("its sector {} of {}, at {}, is not free any more", i + 1, entry.sectors, at));
         }
-        if slot[RANDOM] == 0 && usize::from(number) != i + 1 {
+        if !raw::is_random(slot) && usize::from(number) != i + 1 {
             return Err(format!(
                 "its sector {} of {}, at {}, has the record number {}",
                 i + 1,
