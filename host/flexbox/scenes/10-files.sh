@@ -136,6 +136,59 @@ refuses 1 "DISK ERROR #007" put --replace disk NORTH.TXT <large
 protected 160
 refuses 1 "DISK ERROR #011" put --replace disk NORTH.TXT <lines
 
+# ---- a file whose name no call takes is reached by its slot
+fresh
+patch "$(slot 2)" 57 32 1 # a digit, a blank and a control character before "TH.TXT"
+does list disk
+shows "   2  9??TH.TXT "
+refuses 1 "DISK ERROR #021" get disk "9 .TXT"
+does get --slot 2 disk
+cmp out north
+does get --slot 2 disk by-slot
+cmp by-slot north
+refuses 3 "by-slot: it is there already; --replace would replace it" get --slot 2 disk by-slot
+does get --slot 2 --replace --trim disk by-slot
+does check disk
+cp disk named
+does rename --slot 2 disk NORTH.TXT
+cmp disk "$demo"
+cp named disk
+does delete --slot 2 disk
+does check disk
+shows "disk: clean, 2 files, 8 of 32 sectors used, 24 free"
+does undelete disk
+shows "   2  ???TH.TXT     can be brought back, 5 sectors"
+cp named disk
+refuses 1 "DISK ERROR #003: name exists already (disk, slot 2 to SOUTH.TXT)" rename --slot 2 disk SOUTH.TXT
+refuses 1 "DISK ERROR #021" rename --slot 2 disk 9.TXT
+for slot in 1 5 41 65535; do # deleted, never used, and more than there are
+    refuses 1 "DISK ERROR #004: name not found (disk, slot $slot)" get --slot $slot disk
+    refuses 1 "DISK ERROR #004" delete --slot $slot disk
+    refuses 1 "DISK ERROR #004" rename --slot $slot disk NEW.TXT
+done
+patch $(($(slot 2) + 11)) 224
+refuses 1 "DISK ERROR #017" get --slot 2 disk
+refuses 1 "DISK ERROR #012" delete --slot 2 disk
+refuses 1 "DISK ERROR #011" rename --slot 2 disk NEW.TXT
+cp named disk
+patch "$(sector 1 6)" 0 0
+refuses 1 "DISK ERROR #045" get --slot 2 disk
+says "slot 2: "
+ends 1 "given all the same by --force" get --force --slot 2 disk
+[ "$(wc -c <out)" = 504 ] || fail "--force gave $(wc -c <out) bytes"
+warns "damaged, but not in this file" get --slot 3 disk
+refuses 1 "DISK ERROR #045" delete --slot 2 disk
+refuses 2 "--slot and --force do not go together" delete --slot 2 --force disk
+refuses 2 "--slot and --force do not go together" rename --slot 2 --force disk NEW.TXT
+refuses 2 "--slot and --files do not go together" get --slot 2 --files disk
+refuses 2 "get: wrong number of words" get disk
+refuses 2 "get: wrong number of words" get --slot 2 disk a b
+refuses 2 "delete: wrong number of words" delete disk
+refuses 2 "delete: wrong number of words" delete --slot 2 disk NORTH.TXT
+refuses 2 "rename: wrong number of words" rename --slot 2 disk
+refuses 2 "rename: wrong number of words" rename --slot 2 disk A.TXT B.TXT
+refuses 2 "--slot takes the number of a slot from 1 to 65535, not '0'" get --slot 0 disk
+
 # ---- several files, from files and to files; all of them or none
 fresh
 mkdir logs

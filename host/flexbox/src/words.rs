@@ -120,6 +120,19 @@ impl Words {
         }
     }
 
+    /// A usage error of this command.
+    pub fn misused(&self, problem: &str) -> Failure {
+        self.command.misused(problem)
+    }
+
+    /// Where options change how many words follow the image: that there are as many.
+    pub fn expect_others(&self, counts: RangeInclusive<usize>) -> Result<(), Failure> {
+        match counts.contains(&self.others().len()) {
+            true => Ok(()),
+            false => Err(self.misused("wrong number of words")),
+        }
+    }
+
     /// A usage error: the option has another value than it takes.
     pub fn unfit(&self, option: &str, takes: &str) -> Failure {
         let value = self.value(option).unwrap_or_default().to_string_lossy();

@@ -2,7 +2,7 @@
 //!
 //! A diskette that the census refuses is not changed: sound files could be lost. `--force` is for those who know.
 
-use super::{refused, refused_of};
+use super::{by_slot, refused, refused_of};
 use crate::check;
 use crate::failure::{note, tell, Failure};
 use crate::image::Image;
@@ -80,6 +80,12 @@ pub fn say_where(image: &Path, diskette: &mut Diskette) {
 
 /// `delete`
 pub fn delete(words: &Words) -> Result<(), Failure> {
+    if let Some(number) = by_slot::number_to_change(words)? {
+        words.expect_others(0..=0)?;
+        let what = by_slot::shown(number);
+        return change(words, |diskette| by_slot::delete(diskette, number).map_err(refused(words.image(), &what)));
+    }
+    words.expect_others(1..=1)?;
     let text = words.text(0)?;
     let name = super::typed(text)?;
     change(words, |diskette| diskette.delete(&name).map_err(refused(words.image(), text)))
@@ -87,8 +93,17 @@ pub fn delete(words: &Words) -> Result<(), Failure> {
 
 /// `rename`
 pub fn rename(words: &Words) -> Result<(), Failure> {
-    let (old, new) = (words.text(0)?, words.text(1)?);
-    let (from, to) = (super::typed(old)?, super::typed(new)?);
+    let number = by_slot::number_to_change(words)?;
+    let others = if number.is_some() { 1 } else { 2 };
+    words.expect_others(others..=others)?;
+    let new = words.text(others - 1)?;
+    let to = super::typed(new)?;
+    if let Some(number) = number {
+        let what = format!("{} to {}", by_slot::shown(number), new);
+        return change(words, |diskette| by_slot::rename(diskette, number, &to).map_err(refused(words.image(), &what)));
+    }
+    let old = words.text(0)?;
+    let from = super::typed(old)?;
     let what = format!("{} to {}", old, new);
     change(words, |diskette| diskette.rename(&from, &to).map_err(refused(words.image(), &what)))
 }

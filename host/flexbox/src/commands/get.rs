@@ -1,13 +1,13 @@
 //! `get`: the bytes of files, and whether they can be what was written.
 
 use super::pieces::{pieces, Piece};
-use super::{print_all, refused};
+use super::{by_slot, print_all, refused};
 use crate::check::{self, Check};
 use crate::failure::{note, Failure};
 use crate::image::{is_same, Image};
 use crate::replace::{folder, write_file};
 use crate::words::Words;
-use flex::{Diskette, Reading, Refusal};
+use flex::{Diskette, Name, Reading, Refusal, Slot};
 use std::fmt::Display;
 use std::fs::{self, Metadata};
 use std::os::unix::fs::MetadataExt;
@@ -15,14 +15,14 @@ use std::path::{Path, PathBuf};
 
 /// All files are read before the first is given, so that a refusal gives nothing.
 pub fn run(words: &Words) -> Result<(), Failure> {
-    let pieces = pieces(words)?;
+    let pieces = wanted(words)?;
     let mut image = Image::look(words.image(), words.wait())?;
     let mut diskette = Diskette::new(image.read()?);
     let check = check::check(&mut diskette).map_err(refused(words.image(), "it can't be checked"))?;
     let mut readings = Vec::new();
     let mut all_sound = true;
     for piece in &pieces {
-        let reading = diskette.get(&piece.name).map_err(refused(words.image(), &piece.shown))?;
+        let reading = read(&mut diskette, piece).map_err(refused(words.image(), &piece.shown))?;
         all_sound &= vouch(words, &check, piece, &reading)?;
         readings.push(reading);
     }
@@ -40,9 +40,32 @@ pub fn run(words: &Words) -> Result<(), Failure> {
     }
 }
 
+/// By names, or one by its slot: then the word behind the image, if there is one, is where it goes.
+fn wanted(words: &Words) -> Result<Vec<Piece>, Failure> {
+    match by_slot::number(words)? {
+        Some(number) => {
+            words.expect_others(0..=1)?;
+            let file = words.others().first().map(PathBuf::from);
+            let shown = by_slot::shown(number);
+            Ok(vec![Piece { name: Name::of([0; 11]), shown, slot: Some(number), file }])
+        }
+        None => {
+            words.expect_others(1..=usize::MAX)?;
+            pieces(words)
+        }
+    }
+}
+
+fn read(diskette: &mut Diskette, piece: &Piece) -> Result<Reading, Refusal> {
+    match piece.slot {
+        Some(number) => by_slot::get(diskette, number),
+        None => diskette.get(&piece.name),
+    }
+}
+
 /// Whether the file is as its slot states and in no other chain. If not, only `--force` goes on.
 fn vouch(words: &Words, check: &Check, piece: &Piece, reading: &Reading) -> Result<bool, Failure> {
-    let doubts = doubts(check, reading);
+    let doubts = doubts(check, piece, reading);
     if let Some((refusal, _)) = doubts.first() {
         let texts: Vec<&str> = doubts.iter().map(|(_, text)| text.as_str()).collect();
         let failure = refused(words.image(), &format!("{}: {}", piece.shown, texts.join("; ")))(*refusal);
@@ -61,8 +84,12 @@ fn vouch(words: &Words, check: &Check, piece: &Piece, reading: &Reading) -> Resu
 }
 
 /// Why the bytes may not be the file's, each with the census's number for it.
-fn doubts(check: &Check, reading: &Reading) -> Vec<(Refusal, String)> {
-    let slot = check.slots.iter().find(|slot| slot.entry() == Some(&reading.entry));
+fn doubts(check: &Check, piece: &Piece, reading: &Reading) -> Vec<(Refusal, String)> {
+    let is_read = |slot: &&Slot| match piece.slot {
+        Some(number) => slot.number == number,
+        None => slot.entry() == Some(&reading.entry),
+    };
+    let slot = check.slots.iter().find(is_read);
     let found = slot.into_iter().flat_map(|slot| check.of_slot(slot.number));
     let mut doubts: Vec<(Refusal, String)> = found
         .map(|finding| (Refusal::of(finding.number as u32).unwrap_or(Refusal::CensusFile), finding.text.clone()))

@@ -1,6 +1,7 @@
 //! The commands, one a module, and what they share.
 
 mod accident;
+mod by_slot;
 mod census;
 mod change;
 mod check;

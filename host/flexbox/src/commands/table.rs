@@ -52,7 +52,7 @@ pub const COMMANDS: &[Command] = &[
     },
     Command {
         name: "get",
-        usage: "[--trim] [--files] [--replace] [--force] IMAGE NAME.EXT[=FILE]..",
+        usage: "[--trim] [--files] [--replace] [--force] IMAGE NAME.EXT[=FILE].., or --slot N IMAGE [FILE]",
         summary: "give the bytes of files",
         details: "Writes a file's bytes to standard output, or to FILE: whole sectors of 252 bytes, with the zeros that fill the\n\
                   last one up. A damaged file is refused: one whose chain is not as its slot states (it runs on into another\n\
@@ -61,9 +61,10 @@ pub const COMMANDS: &[Command] = &[
                   \x20 --files    each word is a NAME.EXT, which goes to a file of that name in the current folder\n\
                   \x20 --replace  a FILE that is there already is replaced\n\
                   \x20 --force    gives the bytes of a damaged file, too, with a warning and exit status 1; of a read-protected one\n\
-                  \x20            it gives none\n",
-        operands: (2, MANY),
-        options: &["--trim", "--files", "--replace", "--force"],
+                  \x20            it gives none\n\
+                  \x20 --slot     the file of this slot, as list numbers them, whatever its name is; to FILE, or to standard output\n",
+        operands: (1, MANY),
+        options: &["--trim", "--files", "--replace", "--force", "--slot N"],
         run: get::run,
     },
     Command {
@@ -83,13 +84,14 @@ pub const COMMANDS: &[Command] = &[
     },
     Command {
         name: "delete",
-        usage: "[--force] IMAGE NAME.EXT",
+        usage: "[--force] IMAGE NAME.EXT, or --slot N IMAGE",
         summary: "delete a file",
         details: "Deletes the file; its sectors hang behind the free chain. Sectors of the directory are never given back.\n\
                   \x20 --force    changes a damaged diskette, too, and says so; sound files may be lost, so the old image is kept as\n\
-                  \x20            IMAGE.before. repair --drop is safer\n",
-        operands: (2, 2),
-        options: &["--force"],
+                  \x20            IMAGE.before. repair --drop is safer\n\
+                  \x20 --slot     the file of this slot, whatever its name is; on a sound diskette alone\n",
+        operands: (1, 2),
+        options: &["--force", "--slot N"],
         run: change::delete,
     },
     Command {
@@ -107,12 +109,13 @@ pub const COMMANDS: &[Command] = &[
     },
     Command {
         name: "rename",
-        usage: "[--force] IMAGE OLD.EXT NEW.EXT",
+        usage: "[--force] IMAGE OLD.EXT NEW.EXT, or --slot N IMAGE NEW.EXT",
         summary: "give a file a new name",
         details: "The new name must have an extension.\n\
-                  \x20 --force    changes a damaged diskette, too, and says so; the old image is kept as IMAGE.before\n",
-        operands: (3, 3),
-        options: &["--force"],
+                  \x20 --force    changes a damaged diskette, too, and says so; the old image is kept as IMAGE.before\n\
+                  \x20 --slot     the file of this slot, whatever its name is; on a sound diskette alone\n",
+        operands: (2, 3),
+        options: &["--force", "--slot N"],
         run: change::rename,
     },
     Command {
