@@ -56,7 +56,9 @@ refuses 1 "DISK ERROR #041" census disk
 ends 1 "DISK ERROR #041" census --json disk
 shows '"verdict":41,"sectors":[]}'
 refuses 1 "DISK ERROR #041" check disk
-refuses 1 "DISK ERROR #041" check --json disk
+ends 1 "DISK ERROR #041" check --json disk
+[ "$(cat out)" = '{"image":"disk","verdict":41,"meaning":"not the image of a diskette, or no such shape","files":null,"data_sectors":null,"free_sectors":null,"directory_sectors":null,"findings":[],"unreached":[],"left_behind":[]}' ] ||
+    fail "check --json of what is no diskette: $(cat out)"
 refuses 1 "DISK ERROR #016" info --json disk
 refuses 1 "DISK ERROR #016" list --json disk
 refuses 1 "DISK ERROR #041" put disk A.TXT <"$demo"
@@ -69,6 +71,8 @@ fresh
 printf x >>disk
 refuses 1 "DISK ERROR #041" delete disk NORTH.TXT
 rm disk
+ends 3 "flexbox: disk: No such file" check --json disk
+shows '{"image":"disk","verdict":null,"meaning":"disk: No such file or directory (os error 2)","files":null'
 refuses 3 "disk" list disk
 refuses 3 "disk" put disk A.TXT <"$demo"
 
@@ -78,7 +82,7 @@ does help
 shows "usage:"
 does --version
 grep -qx 'flexbox [0-9]*\.[0-9]*\.[0-9]*, flex [0-9]*\.[0-9]*\.[0-9]*' out || fail "the version: $(cat out)"
-for command in list info check census get put delete undelete rename format repair salvage dump report demo; do
+for command in list info check census get put delete undelete rename format repair salvage diff dump report demo; do
     does help "$command"
     shows "usage: flexbox $command "
     does "$command" --help
@@ -95,6 +99,8 @@ refuses 2 "no command 'erase'" erase disk
 refuses 2 "no command 'erase'" help erase
 refuses 2 "wrong number of words" list
 refuses 2 "wrong number of words" list disk disk
+refuses 2 "check: wrong number of words" check
+refuses 2 "diff: wrong number of words" diff disk
 refuses 2 "wrong number of words" rename disk NORTH.TXT
 refuses 2 "no such option '--all'" get --all disk NORTH.TXT
 refuses 2 "no such option '--force'" list --force disk

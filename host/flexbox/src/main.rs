@@ -8,6 +8,7 @@
 
 mod check;
 mod commands;
+mod diff;
 mod failure;
 mod image;
 mod input;

@@ -57,6 +57,17 @@ impl Words {
         Words { command: self.command, operands: vec![image.to_os_string()], options: Vec::new(), wait: self.wait }
     }
 
+    /// The same command with its options on each of the words by itself.
+    pub fn each(&self) -> Vec<Words> {
+        let one = |word: &OsString| Words {
+            command: self.command,
+            operands: vec![word.clone()],
+            options: self.options.clone(),
+            wait: self.wait,
+        };
+        self.operands.iter().map(one).collect()
+    }
+
     /// The same words and this option.
     pub fn with(&self, option: &'static str) -> Words {
         let options = self.options.iter().cloned().chain([(option, None)]).collect();

@@ -8,7 +8,7 @@ mod sectors;
 mod unreached;
 
 pub use chain::{Chain, Fault};
-pub use sectors::{file, holder, Owner};
+pub use sectors::{file, holder, spans, Owner};
 pub use unreached::Unreached;
 
 use flex::{Address, Diskette, Refusal, Shape, Slot};

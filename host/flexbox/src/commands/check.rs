@@ -1,6 +1,6 @@
 //! `check`: what is damaged and where, in passes as fsck has them.
 
-use super::{look, plural, print, print_json, refused_of};
+use super::{look, on_each, plural, print, print_json, refused_of};
 use crate::check::{check, Check, Unreached};
 use crate::failure::Failure;
 use crate::json;
@@ -19,16 +19,35 @@ const PASSES: [(u8, &str); 5] = [
     (46, "each sector in one chain"),
 ];
 
-/// Ends with status 1 where the census refuses.
+/// All that is known of one image; of several a line each. Ends with status 1 where the census refuses.
 pub fn run(words: &Words) -> Result<(), Failure> {
-    let mut diskette = look(words)?;
-    let check = check(&mut diskette).map_err(refused_of(words, &diskette))?;
-    let left = left_behind(words);
+    match words.others() {
+        [] => one(words, as_text),
+        _ => on_each(words, |words| one(words, |words, check, _| last_line(words, check))),
+    }
+}
+
+fn one(words: &Words, as_text: impl Fn(&Words, &Check, &[String]) -> String) -> Result<(), Failure> {
+    let (check, left) = match look_at(words) {
+        Ok(seen) => seen,
+        Err(failure) => {
+            if words.has("--json") {
+                print_json(&unseen_as_json(words, &failure))?;
+            }
+            return Err(failure);
+        }
+    };
     match words.has("--json") {
         true => print_json(&as_json(words, &check, &left))?,
         false => print(as_text(words, &check, &left).as_bytes())?,
     }
     check.verdict.map_err(|_| Failure::Shown)
+}
+
+fn look_at(words: &Words) -> Result<(Check, Vec<String>), Failure> {
+    let mut diskette = look(words)?;
+    let check = check(&mut diskette).map_err(refused_of(words, &diskette))?;
+    Ok((check, left_behind(words)))
 }
 
 /// The names of new files that a flexbox which is gone has left beside the image.
@@ -105,6 +124,28 @@ pub fn as_json(words: &Words, check: &Check, left: &[String]) -> String {
         .with("findings", json::list(findings))
         .with("unreached", json::list(check.unreached.iter().map(unreached_as_json)))
         .with("left_behind", json::list(left.iter().map(|name| json::text(name))))
+        .end()
+}
+
+/// The same fields for what is no image of a diskette, with 41, or could not be read, with null.
+pub fn unseen_as_json(words: &Words, failure: &Failure) -> String {
+    let (number, meaning) = match failure {
+        Failure::Refused(refusal, _) => (json::number(Some(refusal.number().into())), refusal.meaning().to_string()),
+        other => (json::number(None), other.to_string()),
+    };
+    let none = || json::number(None);
+    let empty = || json::list(Vec::new());
+    json::Object::new()
+        .with_text("image", &words.image().to_string_lossy())
+        .with("verdict", number)
+        .with_text("meaning", &meaning)
+        .with("files", none())
+        .with("data_sectors", none())
+        .with("free_sectors", none())
+        .with("directory_sectors", none())
+        .with("findings", empty())
+        .with("unreached", empty())
+        .with("left_behind", json::list(left_behind(words).iter().map(|name| json::text(name))))
         .end()
 }
 

@@ -1,6 +1,8 @@
 //! The fields that `--json` prints are those of the table in docs/HOST.md: every one of them, and no other.
 
-use super::{census, check, find, info, list, salvage};
+use super::{census, check, diff, find, info, list, salvage};
+use crate::diff::{Difference, Side};
+use crate::failure::Failure;
 use crate::json::reading::{read, Value};
 use crate::salvage::Salvage;
 use crate::words::Words;
@@ -56,8 +58,8 @@ fn images() -> Vec<Vec<u8>> {
 
 /// What a command prints of a diskette; None where `list` is refused.
 fn printed(command: &str, image: Vec<u8>) -> Option<String> {
-    let folder = (command == "salvage").then(|| "folder".into());
-    let typed: Vec<_> = ["--json".into(), NAME.into()].into_iter().chain(folder).collect();
+    let second = ["salvage", "diff"].contains(&command).then(|| "second".into());
+    let typed: Vec<_> = ["--json".into(), NAME.into()].into_iter().chain(second).collect();
     let words = Words::parse(find(command).unwrap(), &typed).ok().flatten().unwrap();
     let mut diskette = Diskette::new(image);
     let record = info::Record::read(&mut diskette).unwrap();
@@ -66,6 +68,10 @@ fn printed(command: &str, image: Vec<u8>) -> Option<String> {
         "salvage" => {
             let found = Salvage::of(diskette.image(), shape, false);
             Some(salvage::as_json(&words, &found, &vec![String::new(); found.files.len()], 0))
+        }
+        "diff" => {
+            let sides = [&mut diskette, &mut Diskette::new(in_use())].map(|side| Side::of(side).unwrap());
+            Some(diff::as_json(&words, &sides[0], &sides[1], &Difference::of(&sides[0], &sides[1])))
         }
         "list" => Some(list::as_json(&words, &diskette.slots().ok()?)),
         "info" => Some(info::as_json(&words, &record, &crate::check::check(&mut diskette).unwrap())),
@@ -79,7 +85,7 @@ fn printed(command: &str, image: Vec<u8>) -> Option<String> {
 
 #[test]
 fn every_field_is_documented_and_every_documented_one_is_there() {
-    for command in ["list", "info", "check", "census", "salvage"] {
+    for command in ["list", "info", "check", "census", "salvage", "diff"] {
         let mut fields = BTreeSet::new();
         for json in images().into_iter().filter_map(|image| printed(command, image)) {
             let value = read(&json);
@@ -94,4 +100,23 @@ fn every_field_is_documented_and_every_documented_one_is_there() {
         assert!(fields.len() >= 5, "{}: {:?}", command, fields);
         assert_eq!(fields, documented(command), "{}", command);
     }
+}
+
+/// What is no diskette, or can't be read, has the same fields.
+#[test]
+fn check_prints_one_object_whatever_it_is() {
+    let words = Words::parse(find("check").unwrap(), &["--json".into(), NAME.into()]).ok().flatten().unwrap();
+    let refused = Failure::Refused(flex::Refusal::CensusShape, String::new());
+    let fields = |json: &str| -> Vec<String> {
+        match read(json) {
+            Value::Object(members) => members.into_iter().map(|(name, _)| name).collect(),
+            other => panic!("no object: {:?}", other),
+        }
+    };
+    let right = fields(&printed("check", in_use()).unwrap());
+    for failure in [refused, Failure::File("gone".to_string()), Failure::Locked("locked".to_string())] {
+        assert_eq!(fields(&check::unseen_as_json(&words, &failure)), right);
+    }
+    let told = check::unseen_as_json(&words, &Failure::File("it's \"gone\"".to_string()));
+    assert!(told.contains("\"verdict\":null,\"meaning\":\"it's \\\"gone\\\"\""), "{}", told);
 }

@@ -7,6 +7,7 @@ mod change;
 mod check;
 mod date;
 mod demo;
+mod diff;
 #[cfg(test)]
 mod documented;
 pub mod dropping;
@@ -36,6 +37,21 @@ use std::path::Path;
 /// The diskette, to be looked at.
 fn look(words: &Words) -> Result<Diskette, Failure> {
     Ok(Diskette::new(Image::look(words.image(), words.wait())?.read()?))
+}
+
+/// A command on each of several images: what fails is told, the others go on, and the status is the highest.
+fn on_each(words: &Words, one: impl Fn(&Words) -> Result<(), Failure>) -> Result<(), Failure> {
+    let mut worst = 0;
+    for words in words.each() {
+        if let Err(failure) = one(&words) {
+            failure.say();
+            worst = worst.max(failure.status());
+        }
+    }
+    match worst {
+        0 => Ok(()),
+        worst => Err(Failure::Several(worst)),
+    }
 }
 
 fn typed(name: &str) -> Result<Name, Failure> {

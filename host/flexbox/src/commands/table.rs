@@ -1,6 +1,6 @@
 //! The table of commands, and the help that is made of it.
 
-use super::{census, change, check, demo, dump, format, get, info, list, put, repair, report, salvage, undelete};
+use super::{census, change, check, demo, diff, dump, format, get, info, list, put, repair, report, salvage, undelete};
 use crate::words::Command;
 use std::fmt::Write;
 
@@ -20,21 +20,23 @@ pub const COMMANDS: &[Command] = &[
     },
     Command {
         name: "info",
-        usage: "[--json] IMAGE",
+        usage: "[--json] IMAGE..",
         summary: "show the shape, label, date and free space",
         details: "Shows the last track M and the sectors a track S, label, volume number and date of the diskette, what is\n\
-                  free, how many files there are, and what the census says.\n",
-        operands: (1, 1),
+                  free, how many files there are, and what the census says. Of several images a line each.\n",
+        operands: (1, MANY),
         options: &["--json"],
         run: info::run,
     },
     Command {
         name: "check",
-        usage: "[--json] IMAGE",
+        usage: "[--json] IMAGE..",
         summary: "check the diskette and say where it is damaged",
         details: "Takes the proved census and says, rule by rule, where the diskette breaks it: which slot, file and sector, and\n\
-                  who shares a sector. Exit status 0: clean; 1: damaged. Nothing is changed.\n",
-        operands: (1, 1),
+                  who shares a sector; which files the directory does not reach; what a flexbox that is gone has left beside it.\n\
+                  Of several images a line each, and the highest exit status. Exit status 0: clean; 1: damaged, or no diskette.\n\
+                  Nothing is changed. With --json there is one object in a line for each image, whatever it is.\n",
+        operands: (1, MANY),
         options: &["--json"],
         run: check::run,
     },
@@ -175,6 +177,17 @@ pub const COMMANDS: &[Command] = &[
         operands: (2, 2),
         options: &["--deleted", "--shape M,S", "--json"],
         run: salvage::run,
+    },
+    Command {
+        name: "diff",
+        usage: "[--json] IMAGE OTHER",
+        summary: "compare two diskettes",
+        details: "Says which files only one of them has, or has with other bytes, size, date, protection, place or slot; which slots and\n\
+                  sectors differ, if both have one shape; and how their free chains differ. Exit status 0: the same, byte for byte;\n\
+                  1: something differs.\n",
+        operands: (2, 2),
+        options: &["--json"],
+        run: diff::run,
     },
     Command {
         name: "dump",
