@@ -73,7 +73,21 @@ refuses 1 "DISK ERROR #003" rename disk NORTH.TXT POWER.TXT
 refuses 1 "DISK ERROR #021" rename disk NORTH.TXT NORTH
 refuses 1 "DISK ERROR #021" rename disk NORTH.TXT -A.TXT
 head -c 100000 /dev/zero >large
-refuses 1 "DISK ERROR #007" put disk LARGE.TXT <large
+refuses 1 "DISK ERROR #007: diskette full (disk, LARGE.TXT: 100000 bytes need 397 sectors, and 19 are free)" put disk LARGE.TXT <large
+head -c $((18 * 252)) large >most
+refuses 1 "(disk, B.TXT: 253 bytes need 2 sectors, and 1 is free)" put disk A.TXT=most B.TXT=<(head -c 253 large)
+refuses 1 "(disk, NORTH.TXT: 100000 bytes need 397 sectors, and 24 are free)" put --replace disk NORTH.TXT <large
+
+# ---- a name without an extension, and one in other case, are told as they are taken, and as they are there
+refuses 1 "DISK ERROR #004: name not found (disk, NONE, which has no extension and so is NONE.TXT)" get disk NONE
+refuses 1 "name not found (disk, NONE, which has no extension and so is NONE.TXT)" delete disk NONE
+refuses 1 "name exists already (disk, NORTH, which has no extension and so is NORTH.TXT)" put disk NORTH <lines
+refuses 1 "name not legal (disk, NORTH.TXT to NEW, which has no extension, and a new name must have one)" rename disk NORTH.TXT NEW
+refuses 1 "name not legal (disk, slot 2 to NEW, which has no extension, and a new name must have one)" rename --slot 2 disk NEW
+refuses 1 "(disk, north.txt; there is NORTH.TXT: upper and lower case differ)" get disk north.txt
+refuses 1 "(disk, North, which has no extension and so is North.TXT; there is NORTH.TXT: upper and lower case differ)" delete disk North
+refuses 1 "(disk, NORTH.txt to NEW.TXT; there is NORTH.TXT: upper and lower case differ)" rename disk NORTH.txt NEW.TXT
+refuses 1 "(disk, none.txt)" get disk none.txt
 
 # ---- protected files: attributes, byte 11 of a slot, are letters in the list
 # protected BYTE: NORTH.TXT has these attributes

@@ -53,6 +53,10 @@ done
 does format --replace --label A --label B -- disk
 does info disk
 shows "label    B"
+does format --replace --label=A=B --volume=7 disk
+does info disk
+shows "label    A=B"
+shows "volume   7"
 rm disk
 
 # ---- wrong words: the limits are named, and no file is made
@@ -79,7 +83,9 @@ for label in 'TWELVE ~~ 12' $'A\tB' $'A\nB' Köln $'\177' $'\377'; do
     none
 done
 refuses 2 "format: no value follows '--date'" format disk --date
-refuses 2 "format: no such option '--label=A'" format --label=A disk
+refuses 2 "format: no such option '--title=A'" format --title=A disk
+refuses 2 "format: '--replace' takes no value" format --replace=yes disk
+refuses 2 "format: --tracks takes a number of tracks from 2 to 80, not ''" format --tracks= disk
 refuses 2 "format: no such option '--force'" format --force disk
 refuses 2 "format: wrong number of words" format --label disk
 refuses 2 "format: wrong number of words" format disk disk

@@ -85,9 +85,13 @@ grep -qx 'flexbox [0-9]*\.[0-9]*\.[0-9]*, flex [0-9]*\.[0-9]*\.[0-9]*' out || fa
 for command in list info check census get put delete undelete rename format repair salvage diff dump report demo; do
     does help "$command"
     shows "usage: flexbox $command "
-    does "$command" --help
-    shows "usage: flexbox $command "
+    for word in --help -h; do
+        does "$command" $word
+        shows "usage: flexbox $command "
+    done
 done
+does -h
+shows "usage: flexbox COMMAND"
 does help help
 shows "usage: flexbox COMMAND"
 does --help list

@@ -138,6 +138,11 @@ for i in $(seq 1 9); do dd if="$demo" of=disk bs=1 skip="$(slot 2)" seek="$(slot
 refuses 1 "DISK ERROR #043" put disk NEW.TXT <lines
 [ "$(grep -c '^  4' err)" = 8 ] || fail "not eight findings: $(cat err)"
 says "  and 2 more: flexbox check disk"
+cp disk "my disk"
+refuses 1 "DISK ERROR #043" put "my disk" NEW.TXT <lines
+says "  and 2 more: flexbox check 'my disk'"
+says "flexbox: flexbox repair --dry-run 'my disk' says what a repair would do"
+rm "my disk"
 ends 1 "" check disk
 shows "disk: DAMAGED, 10 findings: DISK ERROR #043"
 shows "and by NORTH.TXT (slot 8, at 0,5 byte 184) and by 1 more"

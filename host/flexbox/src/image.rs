@@ -7,6 +7,7 @@
 
 use crate::failure::{note, Failure};
 use crate::input;
+use crate::locks;
 use crate::replace;
 use posix::Lock;
 use std::fmt::Display;
@@ -93,7 +94,7 @@ impl Image {
         loop {
             let image = Image::open_file(named, access)?;
             if !image.try_lock(access.lock())? {
-                patience.pause()?;
+                patience.pause(|| image.metadata().map_or(String::new(), |file| locks::holders(&file)))?;
             } else if image.is_still_there().map_err(failed(named))? {
                 // The file may have got another mode or a second name meanwhile.
                 image.suits(access)?;
@@ -232,14 +233,15 @@ impl Patience<'_> {
         Patience { named, wait, began: Instant::now(), said: false }
     }
 
-    /// A moment's sleep, or, after all of the time, the end.
-    fn pause(&mut self) -> Result<(), Failure> {
+    /// A moment's sleep, or, after all of the time, the end. `holders` says who has the lock.
+    fn pause(&mut self, holders: impl Fn() -> String) -> Result<(), Failure> {
         let (name, seconds) = (self.named.display(), self.wait.as_secs());
         if self.began.elapsed() >= self.wait {
-            return Err(Failure::Locked(format!("{}: another program still has it locked after {} s", name, seconds)));
+            let what = format!("another program still has it locked after {} s", seconds);
+            return Err(Failure::Locked(format!("{}: {}{}", name, what, holders())));
         }
         if !self.said && self.began.elapsed() >= QUIET {
-            note(&format!("{}: locked by another program; waiting up to {} s", name, seconds));
+            note(&format!("{}: locked by another program; waiting up to {} s{}", name, seconds, holders()));
             self.said = true;
         }
         thread::sleep(PAUSE);

@@ -14,6 +14,7 @@ mod image;
 mod input;
 mod json;
 mod leftovers;
+mod locks;
 mod page;
 mod plan;
 mod raw;

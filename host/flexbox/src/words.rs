@@ -3,6 +3,7 @@
 use crate::failure::Failure;
 use std::ffi::{OsStr, OsString};
 use std::ops::RangeInclusive;
+use std::os::unix::ffi::OsStrExt;
 use std::path::Path;
 use std::time::Duration;
 
@@ -80,11 +81,16 @@ impl Words {
         let mut rest = words.iter();
         while let Some(word) = rest.next() {
             let text = word.to_str().unwrap_or("");
-            match command.option(text) {
+            let (name, joined) = split(word);
+            match command.option(name) {
+                Some((name, false)) if joined.is_some() => {
+                    return Err(command.misused(&format!("'{}' takes no value", name)));
+                }
                 Some((name, false)) => parsed.options.push((name, None)),
                 Some((name, true)) => {
-                    let value = rest.next().ok_or_else(|| command.misused(&format!("no value follows '{}'", name)))?;
-                    parsed.options.push((name, Some(value.clone())));
+                    let value = joined.or_else(|| rest.next().cloned());
+                    let value = value.ok_or_else(|| command.misused(&format!("no value follows '{}'", name)))?;
+                    parsed.options.push((name, Some(value)));
                 }
                 None if text == "--help" || text == "-h" => return Ok(None),
                 None if text == "--" => {
@@ -167,6 +173,18 @@ impl Words {
     /// An operand behind the image as text.
     pub fn text(&self, i: usize) -> Result<&str, Failure> {
         text(&self.others()[i])
+    }
+}
+
+/// "--wait=1" is an option and its value.
+fn split(word: &OsStr) -> (&str, Option<OsString>) {
+    let bytes = word.as_bytes();
+    match bytes.iter().position(|&byte| byte == b'=').filter(|_| bytes.starts_with(b"--")) {
+        Some(at) => {
+            let name = OsStr::from_bytes(&bytes[..at]).to_str().unwrap_or("");
+            (name, Some(OsStr::from_bytes(&bytes[at + 1..]).to_os_string()))
+        }
+        None => (word.to_str().unwrap_or(""), None),
     }
 }
 

@@ -2,12 +2,12 @@
 //!
 //! A diskette that the census refuses is not changed: sound files could be lost. `--force` is for those who know.
 
-use super::{by_slot, refused, refused_of};
+use super::{by_slot, hint, refused, refused_of, refused_with, told_name, with_extension};
 use crate::check;
 use crate::failure::{note, tell, Failure};
 use crate::image::Image;
-use crate::words::Words;
-use flex::{Diskette, Refusal};
+use crate::words::{quoted, Words};
+use flex::{Diskette, Name, Refusal};
 use std::path::Path;
 
 /// How many findings are told before the rest is only counted.
@@ -62,7 +62,8 @@ fn accept(words: &Words, diskette: &mut Diskette) -> Result<bool, Failure> {
         return Ok(false);
     }
     note(&format!("{}: not changed, since that could destroy sound files; --force would change it", name));
-    note(&format!("flexbox repair --dry-run {} says what a repair would do", name));
+    let word = quoted(&words.image().to_string_lossy());
+    note(&format!("flexbox repair --dry-run {} says what a repair would do", word));
     Err(Failure::Shown)
 }
 
@@ -73,7 +74,8 @@ pub fn say_where(image: &Path, diskette: &mut Diskette) {
             tell(&format!("  {} {}", finding.number, finding));
         }
         if check.findings.len() > TOLD {
-            tell(&format!("  and {} more: flexbox check {}", check.findings.len() - TOLD, image.display()));
+            let word = quoted(&image.to_string_lossy());
+            tell(&format!("  and {} more: flexbox check {}", check.findings.len() - TOLD, word));
         }
     }
 }
@@ -88,7 +90,10 @@ pub fn delete(words: &Words) -> Result<(), Failure> {
     words.expect_others(1..=1)?;
     let text = words.text(0)?;
     let name = super::typed(text)?;
-    change(words, |diskette| diskette.delete(&name).map_err(refused(words.image(), text)))
+    change(words, |diskette| {
+        let deleted = diskette.delete(&name);
+        deleted.map_err(|refusal| refused_with(words.image(), &told_name(text, &name, refusal, diskette), refusal))
+    })
 }
 
 /// `rename`
@@ -99,13 +104,27 @@ pub fn rename(words: &Words) -> Result<(), Failure> {
     let new = words.text(others - 1)?;
     let to = super::typed(new)?;
     if let Some(number) = number {
-        let what = format!("{} to {}", by_slot::shown(number), new);
+        let what = format!("{} to {}", by_slot::shown(number), told_new(new, &to));
         return change(words, |diskette| by_slot::rename(diskette, number, &to).map_err(refused(words.image(), &what)));
     }
     let old = words.text(0)?;
     let from = super::typed(old)?;
-    let what = format!("{} to {}", old, new);
-    change(words, |diskette| diskette.rename(&from, &to).map_err(refused(words.image(), &what)))
+    change(words, |diskette| {
+        let renamed = diskette.rename(&from, &to);
+        renamed.map_err(|refusal| {
+            let names = format!("{} to {}", with_extension(old, &from), told_new(new, &to));
+            let what = names + &hint(&from, refusal, diskette);
+            refused_with(words.image(), &what, refusal)
+        })
+    })
+}
+
+/// Of a new name TXT is not taken for the extension.
+fn told_new(shown: &str, name: &Name) -> String {
+    match name.has_extension() {
+        true => shown.to_string(),
+        false => format!("{}, which has no extension, and a new name must have one", shown),
+    }
 }
 
 #[cfg(test)]

@@ -1,7 +1,7 @@
 //! `get`: the bytes of files, and whether they can be what was written.
 
 use super::pieces::{pieces, Piece};
-use super::{by_slot, print_all, refused};
+use super::{by_slot, print_all, refused, refused_with, told_name};
 use crate::check::{self, Check};
 use crate::failure::{note, Failure};
 use crate::image::{is_same, Image};
@@ -22,7 +22,7 @@ pub fn run(words: &Words) -> Result<(), Failure> {
     let mut readings = Vec::new();
     let mut all_sound = true;
     for piece in &pieces {
-        let reading = read(&mut diskette, piece).map_err(refused(words.image(), &piece.shown))?;
+        let reading = read(&mut diskette, piece).map_err(|refusal| unread(words, &mut diskette, piece, refusal))?;
         all_sound &= vouch(words, &check, piece, &reading)?;
         readings.push(reading);
     }
@@ -54,6 +54,14 @@ fn wanted(words: &Words) -> Result<Vec<Piece>, Failure> {
             pieces(words)
         }
     }
+}
+
+fn unread(words: &Words, diskette: &mut Diskette, piece: &Piece, refusal: Refusal) -> Failure {
+    let what = match piece.slot {
+        Some(_) => piece.shown.clone(),
+        None => told_name(&piece.shown, &piece.name, refusal, diskette),
+    };
+    refused_with(words.image(), &what, refusal)
 }
 
 fn read(diskette: &mut Diskette, piece: &Piece) -> Result<Reading, Refusal> {

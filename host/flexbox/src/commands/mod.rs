@@ -67,18 +67,42 @@ fn full(name: &Name) -> Name {
     Name::of(bytes)
 }
 
+/// The typed name as it is told, with the extension that it has not got.
+fn with_extension(shown: &str, name: &Name) -> String {
+    match name.has_extension() {
+        true => shown.to_string(),
+        false => format!("{}, which has no extension and so is {}", shown, full(name)),
+    }
+}
+
+/// The same where it is refused, with a hint.
+fn told_name(shown: &str, name: &Name, refusal: Refusal, diskette: &mut Diskette) -> String {
+    with_extension(shown, name) + &hint(name, refusal, diskette)
+}
+
+/// The files that have a name which is not found in other letters, large or small.
+fn hint(name: &Name, refusal: Refusal, diskette: &mut Diskette) -> String {
+    let slots = if refusal == Refusal::NotFound { diskette.slots().unwrap_or_default() } else { Vec::new() };
+    let names = slots.iter().filter_map(|slot| Some(slot.entry()?.name.to_string()));
+    let wanted = full(name).to_string();
+    let others = names.filter(|other| other.eq_ignore_ascii_case(&wanted));
+    others.map(|other| format!("; there is {}: upper and lower case differ", other)).collect()
+}
+
 /// What a refusal is told with: the image, and what was asked of it.
 fn refused<'a>(image: &'a Path, what: &'a str) -> impl Fn(Refusal) -> Failure + 'a {
-    move |refusal| {
-        let comma = if what.is_empty() { "" } else { ", " };
-        Failure::Refused(refusal, format!("{}{}{}", image.display(), comma, what))
-    }
+    move |refusal| refused_with(image, what, refusal)
+}
+
+fn refused_with(image: &Path, what: &str, refusal: Refusal) -> Failure {
+    let comma = if what.is_empty() { "" } else { ", " };
+    Failure::Refused(refusal, format!("{}{}{}", image.display(), comma, what))
 }
 
 /// The same of a diskette, whose image may not be one by its length.
 fn refused_of<'a>(words: &'a Words, diskette: &Diskette) -> impl Fn(Refusal) -> Failure + 'a {
     let what = wrong_length(diskette.image());
-    move |refusal| refused(words.image(), &what)(refusal)
+    move |refusal| refused_with(words.image(), &what, refusal)
 }
 
 /// Which length an image has and which was expected; empty where it has the length of its shape.

@@ -4,7 +4,7 @@
 
 use super::check as report;
 use super::dropping::drop_file;
-use super::{full, plural, print, try_print, typed, wrong_length};
+use super::{full, plural, print, told_name, try_print, typed, wrong_length};
 use crate::check::{self, file, holder, Check, Owner};
 use crate::failure::Failure;
 use crate::image::Image;
@@ -67,8 +67,8 @@ fn drop_files(words: &Words, diskette: &mut Diskette) -> Result<String, Failure>
         let typed_name = text(word)?;
         let name = full(&typed(typed_name)?);
         drop_file(diskette, &name).map_err(|refusal| {
-            let disk = words.image().display();
-            Failure::Unrepaired(format!("{}: not changed, since {} can't be dropped: {}", disk, typed_name, refusal))
+            let (disk, told) = (words.image().display(), told_name(typed_name, &name, refusal, diskette));
+            Failure::Unrepaired(format!("{}: not changed, since {} can't be dropped: {}", disk, told, refusal))
         })?;
         let _ = writeln!(lines, "{} is dropped first", name);
     }
