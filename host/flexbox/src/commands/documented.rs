@@ -1,4 +1,4 @@
-//! The fields that `--json` prints are those of the table in docs/HOST.md: every one of them, and no other.
+//! The fields that `--json` prints are those of the table in docs/FLEXBOX.md: every one of them, and no other.
 
 use super::{census, check, diff, find, info, list, salvage};
 use crate::diff::{Difference, Side};
@@ -10,7 +10,7 @@ use diskettes::{blank, offset};
 use flex::{Diskette, Shape};
 use std::collections::BTreeSet;
 
-const DOCUMENT: &str = include_str!("../../../../docs/HOST.md");
+const DOCUMENT: &str = include_str!("../../../../docs/FLEXBOX.md");
 /// Where the table begins. A line has the commands, their fields, and what these hold.
 const TABLE: &str = "| `--json` of | Fields | What they hold |";
 /// With what JSON must quote.
@@ -23,7 +23,7 @@ fn quoted(cell: &str) -> Vec<&str> {
 
 /// The fields that the table has for a command.
 fn documented(command: &str) -> BTreeSet<String> {
-    let table = DOCUMENT.split(TABLE).nth(1).expect("docs/HOST.md has the table of fields");
+    let table = DOCUMENT.split(TABLE).nth(1).expect("docs/FLEXBOX.md has the table of fields");
     let mut fields = BTreeSet::new();
     for row in table.lines().skip(2).take_while(|line| line.starts_with('|')) {
         let cells: Vec<&str> = row.split('|').collect();
