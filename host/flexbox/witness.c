@@ -6,8 +6,8 @@
  * WITNESS_STOP-th ends the process before it is made, as a cut of power would; the WITNESS_FAIL-th is not made, but fails; and just
  * before the WITNESS_STORE-th another program, which asks for no lock, stores a byte, '!', at the start of the file 'disk'.
  *
- * WITNESS_AT_OPEN, WITNESS_AT_LOCK and WITNESS_AT_MOVE hold renames, "FROM TO FROM TO ..", which another program makes just before
- * the first file is opened, the first lock asked for, or the first file moved. With WITNESS_NO_LOCKS the file system has no locks,
+ * WITNESS_AT_OPEN, WITNESS_AT_LOCK, WITNESS_AT_CLAIM and WITNESS_AT_MOVE hold renames, "FROM TO FROM TO ..", which another program
+ * makes just before the first file is opened, the first lock asked for, the first exclusive lock, or the first file moved. With WITNESS_NO_LOCKS the file system has no locks,
  * with WITNESS_NO_MOVES no rename that replaces nothing.
  */
 #define _GNU_SOURCE
@@ -127,6 +127,7 @@ OPEN(open64)
 
 int flock(int file, int operation) {
     meanwhile("WITNESS_AT_LOCK");
+    if (operation & LOCK_EX) meanwhile("WITNESS_AT_CLAIM");
     logged(operation & LOCK_EX ? "lock" : "share", path_of(file));
     if (number("WITNESS_NO_LOCKS")) {
         errno = ENOLCK;

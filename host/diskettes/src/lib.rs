@@ -60,6 +60,9 @@ impl Numbers {
 }
 
 #[cfg(test)]
+mod format_cut;
+
+#[cfg(test)]
 mod tests {
     use super::*;
 

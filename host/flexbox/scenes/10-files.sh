@@ -73,7 +73,21 @@ refuses 1 "DISK ERROR #003" rename disk NORTH.TXT POWER.TXT
 refuses 1 "DISK ERROR #021" rename disk NORTH.TXT NORTH
 refuses 1 "DISK ERROR #021" rename disk NORTH.TXT -A.TXT
 head -c 100000 /dev/zero >large
-refuses 1 "DISK ERROR #007" put disk LARGE.TXT <large
+refuses 1 "DISK ERROR #007: diskette full (disk, LARGE.TXT: 100000 bytes need 397 sectors, and 19 are free)" put disk LARGE.TXT <large
+head -c $((18 * 252)) large >most
+refuses 1 "(disk, B.TXT: 253 bytes need 2 sectors, and 1 is free)" put disk A.TXT=most B.TXT=<(head -c 253 large)
+refuses 1 "(disk, NORTH.TXT: 100000 bytes need 397 sectors, and 24 are free)" put --replace disk NORTH.TXT <large
+
+# ---- a name without an extension, and one in other case, are told as they are taken, and as they are there
+refuses 1 "DISK ERROR #004: name not found (disk, NONE, which has no extension and so is NONE.TXT)" get disk NONE
+refuses 1 "name not found (disk, NONE, which has no extension and so is NONE.TXT)" delete disk NONE
+refuses 1 "name exists already (disk, NORTH, which has no extension and so is NORTH.TXT)" put disk NORTH <lines
+refuses 1 "name not legal (disk, NORTH.TXT to NEW, which has no extension, and a new name must have one)" rename disk NORTH.TXT NEW
+refuses 1 "name not legal (disk, slot 2 to NEW, which has no extension, and a new name must have one)" rename --slot 2 disk NEW
+refuses 1 "(disk, north.txt; there is NORTH.TXT: upper and lower case differ)" get disk north.txt
+refuses 1 "(disk, North, which has no extension and so is North.TXT; there is NORTH.TXT: upper and lower case differ)" delete disk North
+refuses 1 "(disk, NORTH.txt to NEW.TXT; there is NORTH.TXT: upper and lower case differ)" rename disk NORTH.txt NEW.TXT
+refuses 1 "(disk, none.txt)" get disk none.txt
 
 # ---- protected files: attributes, byte 11 of a slot, are letters in the list
 # protected BYTE: NORTH.TXT has these attributes
@@ -136,6 +150,59 @@ refuses 1 "DISK ERROR #007" put --replace disk NORTH.TXT <large
 protected 160
 refuses 1 "DISK ERROR #011" put --replace disk NORTH.TXT <lines
 
+# ---- a file whose name no call takes is reached by its slot
+fresh
+patch "$(slot 2)" 57 32 1 # a digit, a blank and a control character before "TH.TXT"
+does list disk
+shows "   2  9??TH.TXT "
+refuses 1 "DISK ERROR #021" get disk "9 .TXT"
+does get --slot 2 disk
+cmp out north
+does get --slot 2 disk by-slot
+cmp by-slot north
+refuses 3 "by-slot: it is there already; --replace would replace it" get --slot 2 disk by-slot
+does get --slot 2 --replace --trim disk by-slot
+does check disk
+cp disk named
+does rename --slot 2 disk NORTH.TXT
+cmp disk "$demo"
+cp named disk
+does delete --slot 2 disk
+does check disk
+shows "disk: clean, 2 files, 8 of 32 sectors used, 24 free"
+does undelete disk
+shows "   2  ???TH.TXT     can be brought back, 5 sectors"
+cp named disk
+refuses 1 "DISK ERROR #003: name exists already (disk, slot 2 to SOUTH.TXT)" rename --slot 2 disk SOUTH.TXT
+refuses 1 "DISK ERROR #021" rename --slot 2 disk 9.TXT
+for slot in 1 5 41 65535; do # deleted, never used, and more than there are
+    refuses 1 "DISK ERROR #004: name not found (disk, slot $slot)" get --slot $slot disk
+    refuses 1 "DISK ERROR #004" delete --slot $slot disk
+    refuses 1 "DISK ERROR #004" rename --slot $slot disk NEW.TXT
+done
+patch $(($(slot 2) + 11)) 224
+refuses 1 "DISK ERROR #017" get --slot 2 disk
+refuses 1 "DISK ERROR #012" delete --slot 2 disk
+refuses 1 "DISK ERROR #011" rename --slot 2 disk NEW.TXT
+cp named disk
+patch "$(sector 1 6)" 0 0
+refuses 1 "DISK ERROR #045" get --slot 2 disk
+says "slot 2: "
+ends 1 "given all the same by --force" get --force --slot 2 disk
+[ "$(wc -c <out)" = 504 ] || fail "--force gave $(wc -c <out) bytes"
+warns "damaged, but not in this file" get --slot 3 disk
+refuses 1 "DISK ERROR #045" delete --slot 2 disk
+refuses 2 "--slot and --force do not go together" delete --slot 2 --force disk
+refuses 2 "--slot and --force do not go together" rename --slot 2 --force disk NEW.TXT
+refuses 2 "--slot and --files do not go together" get --slot 2 --files disk
+refuses 2 "get: wrong number of words" get disk
+refuses 2 "get: wrong number of words" get --slot 2 disk a b
+refuses 2 "delete: wrong number of words" delete disk
+refuses 2 "delete: wrong number of words" delete --slot 2 disk NORTH.TXT
+refuses 2 "rename: wrong number of words" rename --slot 2 disk
+refuses 2 "rename: wrong number of words" rename --slot 2 disk A.TXT B.TXT
+refuses 2 "--slot takes the number of a slot from 1 to 65535, not '0'" get --slot 0 disk
+
 # ---- several files, from files and to files; all of them or none
 fresh
 mkdir logs
@@ -169,7 +236,7 @@ done
 refuses 3 "flexbox: /dev/null: it is there already; --replace would write to it" get disk ONE.TXT=/dev/null
 does get --replace disk ONE.TXT=/dev/null
 ln -s three link
-refuses 3 "flexbox: link: it is there already; --replace would write to it" get disk TWO.TXT=link
+refuses 3 "flexbox: link: it is there already; --replace would replace it" get disk TWO.TXT=link
 does get --replace --trim disk TWO.TXT=link
 [ -L link ] || fail "get replaced a link"
 cmp three logs/TWO.TXT

@@ -72,7 +72,8 @@ does format --replace --tracks 3 --sectors 5 disk
 does put --files disk many/SITE-1?.LOG
 does check disk
 last_line "disk: clean, 10 files, 10 of 10 sectors used, 0 free"
-refuses 1 "DISK ERROR #007: diskette full" put disk NEW.LOG <many/SITE-1.LOG
+refuses 1 "DISK ERROR #007: diskette full (disk, NEW.LOG: 14 bytes need 1 sector and one for the directory, which has no slot left, and 0 are free)" \
+    put disk NEW.LOG <many/SITE-1.LOG
 refuses 1 "DISK ERROR #003" put disk SITE-10.LOG <many/SITE-1.LOG
 does put --replace disk SITE-10.LOG <many/SITE-1.LOG
 does delete disk SITE-19.LOG
@@ -86,7 +87,7 @@ head -c 1200 /dev/zero | tr '\0' x >five
 does put disk FIVE.LOG=five
 does check disk
 last_line "disk: clean, 10 files, 14 of 15 sectors used, 1 free"
-refuses 1 "DISK ERROR #007: diskette full" put disk NEW.LOG <many/SITE-1.LOG
+refuses 1 "need 1 sector and one for the directory, which has no slot left, and 1 is free)" put disk NEW.LOG <many/SITE-1.LOG
 does delete disk SITE-21.LOG
 does put disk NEW.LOG <many/SITE-1.LOG
 does check disk

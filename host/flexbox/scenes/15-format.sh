@@ -53,6 +53,10 @@ done
 does format --replace --label A --label B -- disk
 does info disk
 shows "label    B"
+does format --replace --label=A=B --volume=7 disk
+does info disk
+shows "label    A=B"
+shows "volume   7"
 rm disk
 
 # ---- wrong words: the limits are named, and no file is made
@@ -79,7 +83,9 @@ for label in 'TWELVE ~~ 12' $'A\tB' $'A\nB' Köln $'\177' $'\377'; do
     none
 done
 refuses 2 "format: no value follows '--date'" format disk --date
-refuses 2 "format: no such option '--label=A'" format --label=A disk
+refuses 2 "format: no such option '--title=A'" format --title=A disk
+refuses 2 "format: '--replace' takes no value" format --replace=yes disk
+refuses 2 "format: --tracks takes a number of tracks from 2 to 80, not ''" format --tracks= disk
 refuses 2 "format: no such option '--force'" format --force disk
 refuses 2 "format: wrong number of words" format --label disk
 refuses 2 "format: wrong number of words" format disk disk
@@ -88,14 +94,28 @@ fresh
 refuses 2 "from 2 to 80" format --replace --tracks 81 disk
 
 # ---- an image that is there stays, whatever it is; --replace replaces it
-refuses 3 "flexbox: disk: it is there already; --replace would replace it, and all files on it would be lost" format disk
+refuses 3 "flexbox: disk: it is there already; --replace would make a blank one, and keep this one beside it" format disk
 : >disk
 refuses 3 "disk: it is there already" format disk
 fresh
 chmod 640 disk
+rm -f disk.before*
 does format --replace disk
-[ "$(cat out)" = "disk: blank, 35 tracks of 10 sectors, 89600 bytes, 340 sectors free" ] || fail "it says: $(cat out)"
-[ "$(stat -c %a disk)" = 640 ] || fail "the mode changed"
+[ "$(cat out)" = "disk: blank, 35 tracks of 10 sectors, 89600 bytes, 340 sectors free
+disk: the old image is disk.before" ] || fail "it says: $(cat out)"
+[ "$(stat -c %a disk disk.before | uniq)" = 640 ] || fail "the mode changed"
+cmp disk.before "$demo"
+does format --replace disk
+shows "disk: the old image is disk.before-2"
+cmp disk.before "$demo"
+rm disk.before*
+truncate -s 737281 disk
+refuses 3 "flexbox: disk: more than 737,280 bytes, so no diskette; not replaced" format --replace disk
+[ ! -e disk.before ] || fail "a refused format kept an image"
+truncate -s 737280 disk
+does format --replace disk
+[ "$(stat -c %s disk.before)" = 737280 ] || fail "kept with $(stat -c %s disk.before) bytes"
+rm disk.before
 does list disk
 hides NORTH.TXT
 rm disk

@@ -56,7 +56,9 @@ refuses 1 "DISK ERROR #041" census disk
 ends 1 "DISK ERROR #041" census --json disk
 shows '"verdict":41,"sectors":[]}'
 refuses 1 "DISK ERROR #041" check disk
-refuses 1 "DISK ERROR #041" check --json disk
+ends 1 "DISK ERROR #041" check --json disk
+[ "$(cat out)" = '{"image":"disk","verdict":41,"meaning":"not the image of a diskette, or no such shape","files":null,"data_sectors":null,"free_sectors":null,"directory_sectors":null,"findings":[],"unreached":[],"left_behind":[]}' ] ||
+    fail "check --json of what is no diskette: $(cat out)"
 refuses 1 "DISK ERROR #016" info --json disk
 refuses 1 "DISK ERROR #016" list --json disk
 refuses 1 "DISK ERROR #041" put disk A.TXT <"$demo"
@@ -69,6 +71,8 @@ fresh
 printf x >>disk
 refuses 1 "DISK ERROR #041" delete disk NORTH.TXT
 rm disk
+ends 3 "flexbox: disk: No such file" check --json disk
+shows '{"image":"disk","verdict":null,"meaning":"disk: No such file or directory (os error 2)","files":null'
 refuses 3 "disk" list disk
 refuses 3 "disk" put disk A.TXT <"$demo"
 
@@ -78,12 +82,16 @@ does help
 shows "usage:"
 does --version
 grep -qx 'flexbox [0-9]*\.[0-9]*\.[0-9]*, flex [0-9]*\.[0-9]*\.[0-9]*' out || fail "the version: $(cat out)"
-for command in list info check census get put delete rename format dump report demo; do
+for command in list info check census get put delete undelete rename format repair salvage diff dump report demo; do
     does help "$command"
     shows "usage: flexbox $command "
-    does "$command" --help
-    shows "usage: flexbox $command "
+    for word in --help -h; do
+        does "$command" $word
+        shows "usage: flexbox $command "
+    done
 done
+does -h
+shows "usage: flexbox COMMAND"
 does help help
 shows "usage: flexbox COMMAND"
 does --help list
@@ -95,6 +103,8 @@ refuses 2 "no command 'erase'" erase disk
 refuses 2 "no command 'erase'" help erase
 refuses 2 "wrong number of words" list
 refuses 2 "wrong number of words" list disk disk
+refuses 2 "check: wrong number of words" check
+refuses 2 "diff: wrong number of words" diff disk
 refuses 2 "wrong number of words" rename disk NORTH.TXT
 refuses 2 "no such option '--all'" get --all disk NORTH.TXT
 refuses 2 "no such option '--force'" list --force disk
@@ -103,9 +113,25 @@ refuses 2 "at most 8 characters" get disk NINECHARS.TXT
 refuses 2 "at most 3" delete disk A.TEXT
 refuses 2 "standard input is empty" put disk A.TXT </dev/null
 
-# ---- what can't be printed is a failure; a reader who has seen enough is none
+# ---- what can't be printed is a failure; a reader who has seen enough is none, but of get, where every byte counts
 if [ -c /dev/full ]; then
     for command in list info check census report; do unprinted "flexbox: standard output: No space left" $command disk; done
+    unprinted "flexbox: standard output: No space left" get disk NORTH.TXT
+fi
+# A standard output that is closed. An emulator may open a file of its own in its place.
+if [ ${#flexbox[@]} = 1 ]; then
+    for arguments in "list disk" "get disk NORTH.TXT" "check disk" "help"; do
+        status=0
+        # shellcheck disable=SC2086
+        limited "${flexbox[@]}" $arguments >&- 2>err || status=$?
+        checks=$((checks + 1))
+        [ "$status" = 3 ] || fail "status $status where standard output is closed: $arguments"
+        [ "$(cat err)" = "flexbox: standard output: it is closed" ] || fail "it says: $(cat err)"
+    done
+    # A change that prints nothing does not need one.
+    limited "${flexbox[@]}" rename disk NORTH.TXT WEST.TXT >&- || fail "status $? of a rename where standard output is closed"
+    checks=$((checks + 1))
+    fresh
 fi
 # The reader is gone before the first byte: the FIFO is opened for both, and then for writing alone.
 mkfifo gone
@@ -115,4 +141,12 @@ mkfifo gone
     limited "${flexbox[@]}" list disk 2>err
 ) || fail "status $? where nobody reads on: $(cat err)"
 [ ! -s err ] || fail "said where nobody reads on: $(cat err)"
-checks=$((checks + 1))
+status=0
+(
+    exec 3<>gone
+    exec >gone 3<&-
+    limited "${flexbox[@]}" get disk NORTH.TXT 2>err
+) || status=$?
+[ "$status" = 3 ] || fail "status $status of get where nobody reads on"
+says "flexbox: standard output: Broken pipe"
+checks=$((checks + 2))

@@ -138,6 +138,62 @@ for i in $(seq 1 9); do dd if="$demo" of=disk bs=1 skip="$(slot 2)" seek="$(slot
 refuses 1 "DISK ERROR #043" put disk NEW.TXT <lines
 [ "$(grep -c '^  4' err)" = 8 ] || fail "not eight findings: $(cat err)"
 says "  and 2 more: flexbox check disk"
+cp disk "my disk"
+refuses 1 "DISK ERROR #043" put "my disk" NEW.TXT <lines
+says "  and 2 more: flexbox check 'my disk'"
+says "flexbox: flexbox repair --dry-run 'my disk' says what a repair would do"
+rm "my disk"
 ends 1 "" check disk
 shows "disk: DAMAGED, 10 findings: DISK ERROR #043"
 shows "and by NORTH.TXT (slot 8, at 0,5 byte 184) and by 1 more"
+
+# ---- a directory that is cut short: the files that vanish are named, repair asks before it frees their sectors, and with the link set again
+# they are back. Six sectors a track: slots 11 and 12 are in 0,6
+rm disk
+does format --tracks 4 --sectors 6 disk
+for i in $(seq 12); do printf 'log %d\n' "$i" >"LOG$i.TXT"; done
+does put --files disk LOG?.TXT LOG1?.TXT
+does check disk
+hides "not reached"
+does info disk
+hides "beyond"
+cp disk sound
+patch 1024 0 0
+ends 1 "" check disk
+shows "46 2 sectors (2,5 to 2,6) are in no chain"
+shows "  not reached by the directory: LOG11.TXT (at 0,6 byte 16), 1 sector from 2,5 to 2,5, 1 of them in no chain"
+shows "  not reached by the directory: LOG12.TXT (at 0,6 byte 40), 1 sector from 2,6 to 2,6, 1 of them in no chain"
+ends 1 "" check --json disk
+shows '"unreached":[{"name":"LOG11.TXT","directory_sector":[0,6],"displacement":16,"sectors":1,"start":[2,5],"end":[2,5],"in_no_chain":1},'
+does info disk
+shows "beyond   in sectors of track 0 that the directory does not reach: LOG11.TXT, LOG12.TXT"
+does info --json disk
+shows '"unreached":["LOG11.TXT","LOG12.TXT"]'
+lost="2 files would lose up to 2 sectors: LOG11.TXT (not reached by the directory, 1 sector in no chain), LOG12.TXT (not"
+ends 2 "not changed, since $lost" repair disk </dev/null
+shows "not reached by the directory: LOG11.TXT"
+shows "  lost: up to 2 sectors of 2 files"
+patch 1024 0 6
+cmp disk sound
+patch 1024 0 0
+ends 1 "" repair --dry-run disk
+status=0
+"${flexbox[@]}" repair --yes disk >out || status=$?
+checks=$((checks + 1))
+[ "$status" = 1 ] || fail "status $status after a repair"
+does check disk
+shows "not reached by the directory: LOG12.TXT (at 0,6 byte 40), 1 sector from 2,6 to 2,6, 0 of them in no chain"
+shows "disk: clean, 10 files"
+# Nothing more is lost by another repair, and it does not ask.
+patch 543 1 1
+status=0
+"${flexbox[@]}" repair disk >out </dev/null || status=$?
+checks=$((checks + 1))
+[ "$status" = 1 ] || fail "status $status after a second repair: $(cat out)"
+shows "not reached by the directory: LOG11.TXT"
+cp sound disk
+patch 1024 0 4
+ends 1 "" check disk
+shows "not reached by the directory: LOG11.TXT"
+ends 2 "not repairable: 042" repair disk
+shows "not reached by the directory: LOG11.TXT"

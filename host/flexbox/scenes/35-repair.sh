@@ -1,4 +1,4 @@
-# Repair: what is wrong is said first, then what each file keeps; the old image is kept; sound files are not cut unasked; and what can't be
+# Repair: what is wrong is said first, then what each file keeps; the old image is kept; no file is cut unasked; and what can't be
 # repaired is not touched.
 
 # mends ARGUMENT..: a repair that must be made, of 'disk': the old image is kept, and the census accepts the new one
@@ -58,8 +58,9 @@ printf '%s\n' "disk: DAMAGED, 2 findings: DISK ERROR #046: a sector is in no cha
     "  SOUTH.TXT (slot 3, at 0,5 byte 64): kept whole, 6 sectors" \
     "  POWER.TXT (slot 4, at 0,5 byte 88): cut from 2 to 1 sector: it leads on to 2,7, which NORTH.TXT (slot 2, at 0,5 byte 40) has" \
     "  free: 20 sectors, 1 of them found again, which was in no chain" \
+    "  lost: up to 1 sector of 1 file" \
     "POWER.TXT is rightly chained, and would be cut for NORTH.TXT (slot 2, at 0,5 byte 40), which comes before it." \
-    "  to keep all of POWER.TXT and lose NORTH.TXT: flexbox delete --force disk NORTH.TXT, and repair then" \
+    "  to keep all of POWER.TXT and lose NORTH.TXT: flexbox repair --drop NORTH.TXT disk" \
     "  to keep what both have now: flexbox get --force disk POWER.TXT=FILE before, flexbox put --replace disk POWER.TXT=FILE afterwards" \
     "a dry run: nothing is written" >expected
 diff expected out || fail "another report"
@@ -67,7 +68,7 @@ diff expected out || fail "another report"
 cp out dry
 
 # ---- nobody can be asked whether POWER.TXT may be cut: not changed
-cut="1 rightly chained file would be cut: POWER.TXT for NORTH.TXT (slot 2, at 0,5 byte 40)"
+cut="1 file would lose up to 1 sector: POWER.TXT (2 to 1 sector, for NORTH.TXT (slot 2, at 0,5 byte 40))"
 ends 2 "flexbox: disk: not changed, since $cut; standard input" repair disk </dev/null
 says "--yes repairs it all the same"
 ends 2 "standard input is no terminal to ask at" repair disk < <(yes)
@@ -77,7 +78,8 @@ head -n -1 dry | diff - <(head -n -1 out) || fail "the repair tells something el
 keeps SOUTH.TXT
 does get disk POWER.TXT
 [ "$(wc -c <out)" = 252 ] || fail "POWER.TXT has $(wc -c <out) bytes"
-"${flexbox[@]}" get "$demo" POWER.TXT | head -c 252 | cmp - out
+"${flexbox[@]}" get "$demo" POWER.TXT >whole
+head -c 252 whole | cmp - out
 does repair disk
 cmp disk.before old
 
@@ -135,6 +137,25 @@ if command -v script >/dev/null; then
     shows "flexbox: disk: changed meanwhile by another program; nothing is written"
     cmp disk old
     [ ! -e disk.before ] || fail "kept though the image was changed before the answer"
+    # While nobody has answered yet, those who look are let in, as the plan tells one to save a file first, and a change is not.
+    accident
+    rm -f disk.before out asked
+    status=0
+    {
+        for ((tries = 0; tries < 600; tries++)); do
+            ! grep -qsF "[y/N]" asked || break
+            sleep 0.05
+        done
+        limited "${flexbox[@]}" get --force --wait 0 disk POWER.TXT=saved 2>/dev/null || echo "get $?" >meanwhile
+        limited "${flexbox[@]}" delete --force --wait 0 disk NORTH.TXT 2>/dev/null || echo "delete $?" >>meanwhile
+        echo y
+    } | limited script -qec "$(printf '%q ' "${flexbox[@]}") repair disk" /dev/null >asked || status=$?
+    checks=$((checks + 3))
+    [ "$status" = 1 ] || fail "status $status where a file was saved before the answer: $(cat asked)"
+    [ "$(cat meanwhile)" = "get 1
+delete 4" ] || fail "while it was asked: $(cat meanwhile)"
+    "${flexbox[@]}" get "$demo" POWER.TXT | cmp - saved
+    does check disk
     # Who goes away instead of answering has not agreed.
     accident
     cp disk old
@@ -161,10 +182,60 @@ does get "$demo" POWER.TXT
 cmp out power
 does check disk
 accident
-warns "" delete --force disk NORTH.TXT
+mends --drop NORTH.TXT disk
+shows "NORTH.TXT is dropped first"
+shows "  46 sector 2,7 is held by NORTH.TXT"
+hides "rightly chained"
+hides "lost:"
+keeps SOUTH.TXT POWER.TXT
+does list disk
+hides NORTH.TXT
+accident
+rm -f disk.before
+warns "its census: 046 a sector is in no chain, or in two; the old image is disk.before" delete --force disk NORTH.TXT
 mends disk
 hides "rightly chained"
 keeps SOUTH.TXT POWER.TXT
+
+# ---- a file that is dropped: by its name with or without TXT, several, one of two of one name; and who can't be
+accident
+ends 1 "" repair --dry-run --drop NORTH disk
+shows "NORTH.TXT is dropped first"
+mends --drop POWER.TXT --drop NORTH.TXT disk
+keeps SOUTH.TXT
+does list disk
+shows "1 file in "
+fresh
+patch "$(slot 3)" 78 79 82 84 72
+mends --drop NORTH.TXT disk
+keeps POWER.TXT
+"${flexbox[@]}" get "$demo" SOUTH.TXT >south
+does get disk NORTH.TXT
+cmp out south
+accident
+ends 2 "flexbox: disk: not changed, since NONE.TXT can't be dropped: 004 name not found" repair --drop NONE.TXT disk
+ends 2 "9.TXT can't be dropped: 021" repair --drop 9.TXT disk
+ends 2 "at most 8 characters" repair --drop NINECHARS.TXT disk
+patch $(($(slot 2) + 11)) 64
+ends 2 "NORTH.TXT can't be dropped: 012" repair --drop NORTH.TXT disk
+# Another file that would lose something is asked about all the same.
+accident
+patch "$(sector 1 5)" 0 0
+ends 2 "not changed, since 1 file would lose up to 4 sectors: SOUTH.TXT (6 to 2 sectors)" repair --drop NORTH.TXT disk </dev/null
+fresh
+ends 2 "flexbox: disk: nothing is wrong with it, so no file is dropped; flexbox delete deletes one" repair --drop NORTH.TXT disk
+# A name that a shell would split is told in quotes, and so it works.
+accident
+mv disk "my disk"
+status=0
+"${flexbox[@]}" repair --dry-run "my disk" >out || status=$?
+way=$(sed -n 's/.*lose NORTH.TXT: flexbox //p' out)
+[ "$way" = "repair --drop NORTH.TXT 'my disk'" ] || fail "the way out is told as: $way"
+status=0
+eval '"${flexbox[@]}"' "$way" >out || status=$?
+[ "$status" = 1 ] || fail "status $status of the way out"
+checks=$((checks + 2))
+rm "my disk" "my disk.before"
 
 # ---- a sound file behind a damaged one that runs into it: both are named, and it is asked
 fresh
@@ -175,7 +246,7 @@ shows "45 NORTH.TXT (slot 2, at 0,5 byte 40): sector 3 of 3 is at 2,7, but its s
 shows "NORTH.TXT (slot 2, at 0,5 byte 40): kept as it is stated, 3 sectors; another end was stated, 2,4"
 shows "POWER.TXT (slot 4, at 0,5 byte 88): cut from 2 to 0 sectors: its start is 2,6, which NORTH.TXT (slot 2, at 0,5 byte 40) has"
 shows "POWER.TXT is rightly chained, and would be cut for NORTH.TXT (slot 2, at 0,5 byte 40), which is damaged and comes before it."
-ends 2 "not changed, since $cut" repair disk
+ends 2 "not changed, since 1 file would lose up to 2 sectors: POWER.TXT (2 to 0 sectors, for NORTH.TXT" repair disk
 warns "" delete --force disk NORTH.TXT
 mends disk
 keeps SOUTH.TXT POWER.TXT
@@ -189,43 +260,61 @@ shows "POWER.TXT is rightly chained"
 hides "delete --force"
 hides "get --force"
 
-# ---- damage that is told and mended without a question; what it does not reach is whole
+# ---- a file that is damaged itself is not cut unasked either: the question counts what would be lost
+# cuts LOSS CUT: the damage of 'disk' costs so much, and only --yes mends it
+cuts() {
+    rm -f disk.before
+    ends 2 "flexbox: disk: not changed, since $1; standard input is no terminal" repair disk </dev/null
+    shows "lost: $2"
+    [ ! -e disk.before ] || fail "a refused repair kept an image"
+    mends --yes disk
+}
 fresh
 patch "$(sector 1 6)" 9 9
-mends disk
+cuts "1 file would lose up to 3 sectors: NORTH.TXT (5 to 2 sectors)" "up to 3 sectors of 1 file"
 shows "NORTH.TXT (slot 2, at 0,5 byte 40): cut from 5 to 2 sectors: it leads on to 9,9, which is no data sector"
 shows "free: 22 sectors, 3 of them found again, which were in no chain"
 keeps SOUTH.TXT POWER.TXT
 fresh
 patch "$(sector 1 6)" 0 0
-mends disk
+cuts "1 file would lose up to 3 sectors: NORTH.TXT (5 to 2 sectors)" "up to 3 sectors of 1 file"
 shows "cut from 5 to 2 sectors: it ends there"
 keeps SOUTH.TXT POWER.TXT
 fresh
 patch "$(sector 1 6)" 1 3
-mends disk
+cuts "1 file would lose up to 3 sectors: NORTH.TXT (5 to 2 sectors)" "up to 3 sectors of 1 file"
 shows "cut from 5 to 2 sectors: it leads back to 1,3"
 keeps SOUTH.TXT POWER.TXT
 fresh
 patch $(($(slot 2) + 13)) 0 1
-mends disk
+cuts "1 file would lose up to 5 sectors: NORTH.TXT (5 to 0 sectors)" "up to 5 sectors of 1 file"
 shows "cut from 5 to 0 sectors: its start is 0,1, which is no data sector"
 keeps SOUTH.TXT POWER.TXT
 fresh
 patch $(($(slot 3) + 17)) 255 255
-mends disk
+patch "$(sector 1 6)" 0 0
+cuts "2 files would lose up to 29 sectors: NORTH.TXT (5 to 2 sectors), SOUTH.TXT (65535 to 6 sectors)" "up to 29 sectors of 2 files"
 shows "SOUTH.TXT (slot 3, at 0,5 byte 64): cut from 65535 to 6 sectors: it ends there"
-keeps NORTH.TXT SOUTH.TXT POWER.TXT
+keeps SOUTH.TXT POWER.TXT
+# Behind the stated size, too: what could be read there is in no chain then. NORTH.TXT states 2 of its 5 sectors, or none.
+fresh
+patch $(($(slot 2) + 17)) 0 2
+cuts "1 file would lose up to 3 sectors: NORTH.TXT (3 sectors behind its stated size)" "up to 3 sectors of 1 file"
+shows "NORTH.TXT (slot 2, at 0,5 byte 40): kept as it is stated, 2 sectors; behind them its chain led on to 1,8"
+keeps SOUTH.TXT POWER.TXT
+fresh
+patch $(($(slot 2) + 17)) 0 0
+cuts "1 file would lose up to 5 sectors: NORTH.TXT (5 sectors behind its stated size)" "up to 5 sectors of 1 file"
+shows "NORTH.TXT (slot 2, at 0,5 byte 40): kept as it is stated, no sector"
+keeps SOUTH.TXT POWER.TXT
+
+# ---- damage by which no file loses anything is mended without a question
 fresh
 patch "$(sector 2 4)" 3 1
 mends disk
 shows "NORTH.TXT (slot 2, at 0,5 byte 40): kept as it is stated, 5 sectors; behind them its chain led on to 3,1"
+hides "lost:"
 keeps NORTH.TXT SOUTH.TXT POWER.TXT
-fresh
-patch $(($(slot 2) + 17)) 0 0
-mends disk
-shows "NORTH.TXT (slot 2, at 0,5 byte 40): kept as it is stated, no sector"
-keeps SOUTH.TXT POWER.TXT
 fresh
 patch 541 1 3
 mends disk
@@ -289,7 +378,7 @@ for kept in disk.before disk.before-2 disk.before-3; do
     patch "$(sector 1 6)" 0 0
     cp disk old
     status=0
-    "${flexbox[@]}" repair disk >out || status=$?
+    "${flexbox[@]}" repair --yes disk >out || status=$?
     [ "$status" = 1 ] || fail "status $status after a repair"
     shows "disk: repaired; the old image is $kept"
     cmp "$kept" old
@@ -303,7 +392,7 @@ ln -s nowhere disk.before-2
 fresh
 patch "$(sector 1 6)" 0 0
 status=0
-"${flexbox[@]}" repair disk >out || status=$?
+"${flexbox[@]}" repair --yes disk >out || status=$?
 [ "$status" = 1 ] || fail "status $status where a folder has the name"
 shows "the old image is disk.before-3"
 [ -L disk.before-2 ] && [ ! -e nowhere ] || fail "a link that leads nowhere was followed or replaced"
@@ -315,7 +404,7 @@ rm disk.before*
 fresh
 patch "$(sector 1 6)" 0 0
 chmod 600 disk
-mends disk
+mends --yes disk
 [ "$(stat -c %a disk disk.before | sort -u)" = 600 ] || fail "a private image was kept for all to read"
 mkdir far
 rm -f disk.before
@@ -324,7 +413,7 @@ patch "$(sector 1 6)" 0 0
 mv disk far/disk
 ln -s far/disk link
 status=0
-"${flexbox[@]}" repair link >out || status=$?
+"${flexbox[@]}" repair --yes link >out || status=$?
 [ "$status" = 1 ] || fail "status $status through a link"
 checks=$((checks + 1))
 [ -L link ] && [ -f far/disk.before ] && [ ! -e link.before ] || fail "not kept beside what the link leads to"
@@ -353,7 +442,7 @@ refuses 3 "not a regular file" repair /dev/zero
 # ---- where what would be done can't be printed, nothing is done
 if [ -c /dev/full ]; then
     cp disk old
-    unprinted "flexbox: standard output: No space left" repair disk
+    unprinted "flexbox: standard output: No space left" repair --yes disk
     cmp disk old
     [ ! -e disk.before ] || fail "kept though nothing was done"
 fi

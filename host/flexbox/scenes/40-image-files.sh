@@ -16,7 +16,7 @@ closed_folder() {
     chmod 500 closed
     refuses 3 "flexbox: closed/disk: not changed: a new image can't be made in its folder: Permission denied" \
         put closed/disk NEW.TXT <lines
-    refuses 3 "flexbox: closed/disk: not changed: a new image can't be made in its folder: Permission denied" \
+    refuses 3 "closed/disk: not changed, since the old image is not kept: a new image can't be made in its folder: Permission denied" \
         format --replace closed/disk
     refuses 3 "flexbox: closed/new: not made: a new image can't be made in its folder: Permission denied" format closed/new
     cmp closed/disk "$demo"
@@ -24,7 +24,7 @@ closed_folder() {
     chmod 700 closed
     "$@" touch closed/there
     chmod 500 closed
-    refuses 3 "flexbox: closed/there: a new file can't be made beside it: Permission denied" \
+    refuses 3 "closed/there: not replaced: a new file can't be made in its folder: Permission denied" \
         get --replace closed/disk NORTH.TXT=closed/there
     chmod 700 closed
 }
@@ -45,7 +45,7 @@ does delete link NORTH.TXT
 does list disk
 hides NORTH.TXT
 fresh
-refuses 3 "flexbox: link: it is there already; --replace would replace it, and all files on it would be lost" format link
+refuses 3 "flexbox: link: it is there already; --replace would make a blank one, and keep this one beside it" format link
 does format --replace link
 [ -L link ] || fail "the link was replaced"
 does check disk
@@ -108,6 +108,30 @@ does list disk
 does check disk
 chmod 644 disk
 
+# ---- get keeps owner and mode of a file that it replaces, and does not replace a read-only one; of several then none is written
+echo old >there
+chmod 4640 there
+[ "$(id -u)" != 0 ] || chown 4321:8765 there
+[ "$(id -u)" != 0 ] || chmod 4640 there
+owner=$(stat -c %u:%g:%a there)
+does get --replace disk NORTH.TXT=there
+[ "$(stat -c %u:%g:%a there)" = "$owner" ] || fail "owner and mode were $owner, and are $(stat -c %u:%g:%a there)"
+does get disk NORTH.TXT
+cmp out there
+echo old >there
+chmod 444 there
+refuses 3 "flexbox: there: it has no write permission; not replaced" get --replace disk SOUTH.TXT=south NORTH.TXT=there
+[ "$(cat there)" = old ] && [ ! -e south ] || fail "a refused get has written"
+ln -s there link
+refuses 3 "flexbox: link: it has no write permission; not replaced" get --replace disk NORTH.TXT=link
+rm -f there
+for way in "" --replace; do
+    # shellcheck disable=SC2086
+    refuses 3 "flexbox: link: it is there already, a link that leads nowhere" get $way disk NORTH.TXT=link
+done
+[ -L link ] && [ ! -e there ] || fail "a link that leads nowhere was followed or replaced"
+rm link
+
 # ---- a second name of the same file would keep the old image
 ln disk second
 refuses 3 "2 hard links" put disk NEW.TXT <lines
@@ -156,7 +180,10 @@ mv disk "$long"
 does put "$long" NEW.TXT <lines
 rm "$long"
 does format "$long"
-does format --replace "$long"
+does put "$long" NEW.TXT <lines
+refuses 3 "$long.before: the old image is not kept, nor changed: File name too long" format --replace "$long"
+does check "$long"
+shows ": clean, 1 file"
 rm "$long"
 refuses 3 "flexbox: ${long}d: File name too long" format "${long}d"
 

@@ -57,11 +57,35 @@ if command -v flock >/dev/null; then
     refuses 4 "another program still has it locked after 1 s" put --wait 1 disk NEW.TXT <"$demo"
     says "waiting up to 1 s"
     refuses 4 "another program still has it locked after 0 s" delete --wait 0 disk NORTH.TXT
+    refuses 4 "another program still has it locked after 0 s" delete --wait=0 disk NORTH.TXT
+    refuses 2 "delete: --wait takes a number of seconds from 0 to 65535, not ''" delete --wait= disk NORTH.TXT
+    refuses 2 "list: '--json' takes no value" list --json=1 disk
     refuses 4 "another program" list --wait 0 disk
     refuses 4 "another program still has it locked after 0 s" format --replace --wait 0 disk
     refuses 3 "it is there already" format --wait 60 disk
     refuses 4 "another program still has it locked after 5 s" put disk NEW.TXT <"$demo"
     says "waiting up to 5 s"
+
+    # ---- who has the lock is named, as far as the kernel tells
+    inode=$(stat -c %i disk)
+    if grep -qE "FLOCK +ADVISORY +WRITE +[0-9]+ [0-9a-f]+:[0-9a-f]+:$inode " /proc/locks 2>/dev/null; then
+        holder=$(awk -v inode=":$inode\$" '$2 == "FLOCK" && $6 ~ inode { print $5 }' /proc/locks)
+        refuses 4 "flexbox: disk: another program still has it locked after 0 s: process $holder, or one that it has started" list --wait 0 disk
+        flock -u 9
+        flock -F disk sleep 100 & # -F: in one process
+        sleeper=$!
+        for ((tries = 0; tries < 600; tries++)); do
+            ! grep -q ":$inode " /proc/locks || [ "$(cat /proc/$sleeper/comm)" != sleep ] || break
+            sleep 0.05
+        done
+        refuses 4 "locked after 0 s: process $sleeper (sleep)" list --wait 0 disk
+        refuses 4 "waiting up to 1 s: process $sleeper (sleep)" list --wait=1 disk
+        kill $sleeper
+        wait $sleeper 2>/dev/null || true
+        flock 9
+    else
+        echo "flexbox: /proc/locks does not list the lock here: that its holder is named was not tried"
+    fi
 
     # ---- who waited for an image that was replaced meanwhile changes the new one
     cp disk other

@@ -97,6 +97,8 @@ if [ -n "$witness" ]; then
     ended 0
     does check disk
     shows "disk: clean, 0 files"
+    cmp disk.before other.before
+    rm disk.before
     fresh
     witnessed WITNESS_AT_LOCK="disk gone" -- format --replace disk
     ended 3
@@ -151,11 +153,31 @@ if [ -n "$witness" ]; then
     fresh
     patch "$(sector 1 6)" 0 0
     cp disk old
-    stored 6 repair disk
-    # format --replace has not read it, whatever it holds
-    witnessed WITNESS_STORE=1 -- format --replace disk
-    ended 0
-    does check disk
+    stored 6 repair --yes disk
+
+    # ---- repair looks under the shared lock, and takes the exclusive one when it is agreed to: an image that came between the two is not
+    # replaced, be it another file or other bytes in this one; the same bytes in another file are repaired
+    rm -f disk.before*
+    for other in "$demo" old; do
+        cp old disk
+        cp "$other" other
+        witnessed WITNESS_AT_CLAIM="other disk" -- repair --yes disk
+        if [ "$other" = old ]; then
+            ended 1
+            does check disk
+            cmp disk.before old
+            rm disk.before
+        else
+            ended 3
+            says "flexbox: disk: changed meanwhile by another program; nothing is written"
+            cmp disk "$demo"
+            [ ! -e disk.before ] || fail "kept though another image came"
+        fi
+        grep -qx 'share disk' log || fail "not looked at under the shared lock: $(cat log)"
+    done
+    cp old disk
+    stored 6 format --replace disk
+    stored 6 delete --force disk NORTH.TXT
 
     # ---- on a file system without locks one looks all the same, and changes nothing
     fresh

@@ -14,7 +14,7 @@ is() {
 
 # calls_are TEXT: all calls of the last command under the witness; the new file's name is NEW
 calls_are() {
-    sed 's/\.flexbox-[0-9]*-[0-9]*\.new/NEW/' log | uniq | tr '\n' ' ' >calls
+    sed 's/\.flexbox-[0-9]*-[0-9]*-[^ ]*\.new/NEW/' log | uniq | tr '\n' ' ' >calls
     [ "$(cat calls)" = "$1 " ] || fail "calls: $(cat calls)"
 }
 
@@ -57,11 +57,9 @@ if [ -n "$witness" ]; then
     whole old 3 4 delete disk NORTH.TXT
     calls_are "open disk lock disk read disk open $folder make 600 NEW write NEW sync NEW read disk rename disk sync $folder"
 
-    # ---- format --replace does the same without reading it
-    does format --replace --date 12-03-81 disk
+    rm disk
+    does format --date 12-03-81 disk
     cp disk new
-    whole old 3 4 format --replace --date 12-03-81 disk
-    calls_are "open disk lock disk open $folder make 600 NEW write NEW sync NEW rename disk sync $folder"
 
     # ---- a new image is put there by a rename that replaces nothing; where the file system has none, by a link
     whole "" 3 4 format --date 12-03-81 disk
@@ -70,60 +68,73 @@ if [ -n "$witness" ]; then
     calls_are "open . make 666 NEW write NEW sync NEW move disk link disk remove NEW sync $folder"
     [ "$(stat -c %h disk)" = 1 ] || fail "the new image has two names"
 
-    # ---- repair keeps the old image first, by a rename that replaces nothing, synced, and only then puts the new one in place. Cut at any
-    # moment, it leaves the old image or the new one, and the old one beside it before it is gone; where it fails, no second old one stays
+    # ---- repair, format --replace and what --force changes keep the old image first, by a rename that replaces nothing, synced, and only
+    # then put the new one in place. Cut at any moment, they leave the old image or the new one, and the old one beside it before it is
+    # gone; where they fail, no second old one stays
     # kept COUNT: after so many of its calls the old image is there under both names, and no more
     kept() {
         if [ "$1" -ge 3 ]; then cmp disk.before old; else [ ! -e disk.before ] || fail "kept after $1 calls"; fi
+    }
+    # keeping STATUS ARGUMENT..: a command that makes another image of 'old', and ends so
+    keeping() {
+        local ends=$1 i there left
+        shift
+        begin old
+        rm -f disk.before
+        witnessed -- "$@"
+        [ "$status" = "$ends" ] || fail "status $status: $*: $(cat err)"
+        cp disk new
+        for i in 1 2 3 4 5 6 7 8; do
+            there=old
+            [ $i -le 7 ] || there=new
+            begin old
+            rm -f disk.before
+            witnessed WITNESS_STOP=$i -- "$@"
+            [ "$status" = 99 ] || fail "not cut before call $i: $*"
+            is $there
+            kept $((i - 1))
+            begin old
+            rm -f disk.before
+            witnessed WITNESS_FAIL=$i -- "$@"
+            [ "$status" = 3 ] || fail "status $status after call $i failed: $*"
+            is $there
+            left=$(find . -name '*.new')
+            [ -z "$left" ] || fail "left behind: $left: $*"
+            if [ $i = 8 ]; then
+                cmp disk.before old
+                says "the new image is in place, but its folder could not be synced: Input/output error (os error 5); the old image is disk.before"
+            else
+                [ ! -e disk.before ] || fail "kept though call $i failed: $*"
+            fi
+        done
     }
     begin ""
     fresh
     patch "$(sector 1 6)" 0 0
     cp disk old
-    ends 1 "" repair --dry-run disk
-    status=0
-    "${flexbox[@]}" repair disk >out || status=$?
-    [ "$status" = 1 ] || fail "status $status after a repair"
-    cp disk new
+    saving="open . make 600 NEW write NEW sync NEW read disk move disk.before sync $folder open $folder make 600 NEW write NEW sync NEW read disk rename disk sync $folder"
+    keeping 0 format --replace --date 12-03-81 disk
+    begin old
     rm disk.before
-    for i in 1 2 3 4 5 6 7 8; do
-        there=old
-        [ $i -le 7 ] || there=new
-        begin old
-        rm -f disk.before
-        witnessed WITNESS_STOP=$i -- repair disk
-        [ "$status" = 99 ] || fail "a repair was not cut before call $i"
-        is $there
-        kept $((i - 1))
-        begin old
-        rm -f disk.before
-        witnessed WITNESS_FAIL=$i -- repair disk
-        [ "$status" = 3 ] || fail "status $status after call $i of a repair failed"
-        is $there
-        left=$(find . -name '*.new')
-        [ -z "$left" ] || fail "left behind by repair: $left"
-        if [ $i = 8 ]; then
-            cmp disk.before old
-            says "the new image is in place, but its folder could not be synced: Input/output error (os error 5); the old image is disk.before"
-        else
-            [ ! -e disk.before ] || fail "kept though call $i failed"
-        fi
-    done
+    witnessed -- format --replace --date 12-03-81 disk
+    calls_are "open disk lock disk read disk $saving"
+    keeping 0 delete --force disk NORTH.TXT
+    keeping 1 repair --yes disk
     begin old
     rm -f disk.before
-    witnessed WITNESS_FAIL=1 -- repair disk
+    witnessed WITNESS_FAIL=1 -- repair --yes disk
     says "flexbox: disk: not changed, since the old image is not kept: the new image could not be written beside it: No space left"
-    witnessed WITNESS_FAIL=5 -- repair disk
+    witnessed WITNESS_FAIL=5 -- repair --yes disk
     says "flexbox: disk: not changed: the new image could not be written beside it: No space left"
-    witnessed -- repair disk
+    witnessed -- repair --yes disk
     [ "$status" = 1 ] || fail "status $status after a repair under the witness"
     is new
-    calls_are "open disk lock disk read disk open . make 600 NEW write NEW sync NEW read disk move disk.before sync $folder open $folder make 600 NEW write NEW sync NEW read disk rename disk sync $folder"
+    calls_are "open disk share disk read disk open disk lock disk read disk $saving"
     rm disk.before
     # ---- a repair that a cut broke off between the two is made again, and keeps the old image once more
     begin old
-    witnessed WITNESS_STOP=5 -- repair disk
-    witnessed -- repair disk
+    witnessed WITNESS_STOP=5 -- repair --yes disk
+    witnessed -- repair --yes disk
     is new
     cmp disk.before old
     cmp disk.before-2 old
@@ -131,7 +142,7 @@ if [ -n "$witness" ]; then
     # ---- and a file that comes to the name of the old image meanwhile stays
     begin old
     echo another >other
-    witnessed WITNESS_AT_MOVE="other disk.before" -- repair disk
+    witnessed WITNESS_AT_MOVE="other disk.before" -- repair --yes disk
     [ "$status" = 3 ] || fail "status $status where the name was taken meanwhile"
     says "flexbox: disk.before: another file was put there meanwhile; the old image is not kept, nor changed"
     is old
@@ -139,7 +150,7 @@ if [ -n "$witness" ]; then
     rm disk.before
     # ---- on a file system without a rename that replaces nothing, too
     begin old
-    witnessed WITNESS_NO_MOVES=1 -- repair disk
+    witnessed WITNESS_NO_MOVES=1 -- repair --yes disk
     [ "$status" = 1 ] || fail "status $status without such a rename"
     is new
     cmp disk.before old
@@ -149,6 +160,7 @@ if [ -n "$witness" ]; then
     begin old
     does format --replace --date 12-03-81 disk
     cp disk new
+    rm disk.before
 
     # ---- where the first name can't be removed, the image is in place and synced all the same; it is not changed before it has one
     # name again, and that is what is said
@@ -179,25 +191,77 @@ if [ -n "$witness" ]; then
     says "flexbox: disk: "
     ! grep -F .flexbox- err || fail "a file that is gone is named"
 
-    # ---- of a file that get could not write whole nothing is left
+    # ---- get writes files as images are saved: cut or failing at any moment, there is the old file or the new one, whole, or none
+    # given OLD PLACING ARGUMENT..: get of NORTH.TXT to 'there', which is OLD before, or is not there; the PLACING-th call puts it there
+    given() {
+        local old=$1 placing=$2 i expected
+        shift 2
+        does get disk NORTH.TXT
+        cp out new
+        for i in 1 2 3 4; do
+            for how in STOP FAIL; do
+                expected=$old
+                [ $i -le "$placing" ] || expected=new
+                rm -f there .flexbox-*.new
+                [ -z "$old" ] || cp "$old" there
+                witnessed WITNESS_$how=$i -- "$@"
+                [ "$status" = "$([ $how = STOP ] && echo 99 || echo 3)" ] || fail "status $status at call $i of get: $(cat err)"
+                if [ -n "$expected" ]; then cmp there "$expected"; else [ ! -e there ] || fail "a part of a file is left"; fi
+                left=$(find . -name '*.new')
+                [ $how = STOP ] || [ -z "$left" ] || fail "left behind by get: $left"
+            done
+        done
+        rm -f there .flexbox-*.new
+        [ -z "$old" ] || cp "$old" there
+        witnessed -- "$@"
+        [ "$status" = 0 ] || fail "status $status of get: $(cat err)"
+        cmp there new
+    }
     fresh
+    given "" 3 get disk NORTH.TXT=there
+    calls_are "open disk share disk read disk open . make 666 NEW write NEW sync NEW move there sync $folder"
     witnessed WITNESS_FAIL=1 -- get disk NORTH.TXT=part
-    [ "$status" = 3 ] || fail "status $status after get could not write"
-    grep -q '^flexbox: part: No space left' err || fail "the file is not named: $(cat err)"
-    [ ! -e part ] || fail "a part of a file is left"
+    says "flexbox: part: not written: the new file could not be written beside it: No space left"
+    echo old >was
+    given was 3 get --replace disk NORTH.TXT=there
+    calls_are "open disk share disk read disk open $folder make 600 NEW write NEW sync NEW rename unlocked there sync $folder"
 
-    # ---- and one that it was to replace stays
-    echo old >there
-    for failing in 1 2; do
-        witnessed WITNESS_FAIL=$failing -- get --replace disk NORTH.TXT=there
-        [ "$status" = 3 ] || fail "status $status after call $failing of get --replace failed"
-        [ "$(cat there)" = old ] || fail "the file that was to be replaced is lost"
-        left=$(find . -name '*.new')
-        [ -z "$left" ] || fail "left behind by get --replace: $left"
-    done
-    does get --replace disk NORTH.TXT=there
-    does get disk NORTH.TXT
-    cmp out there
+    # ---- what a flexbox that is gone has left beside an image: check tells of it, and the next change of that image removes it and says so
+    fresh
+    cp disk other
+    witnessed WITNESS_STOP=2 -- delete disk NORTH.TXT
+    left=$(basename "$(find . -name '*.new')")
+    [[ $left == .flexbox-*-0-disk.new ]] || fail "not left: $left"
+    touch .flexbox-$$-0-disk.new # of a process that is running: this one
+    does check disk
+    shows "  left by a flexbox that is gone: $left; the next change of the image removes it"
+    [ "$(grep -c 'left by' out)" = 1 ] || fail "told of another: $(cat out)"
+    does check --json disk
+    shows "\"left_behind\":[\"$left\"]"
+    does check other
+    hides "left by"
+    does delete other NORTH.TXT
+    does put other NEW.TXT <<<new
+    [ -e "$left" ] || fail "removed by the change of another image"
+    ln -s disk link
+    warns "flexbox: link: $left, left by a flexbox that is gone, is removed" rename link NORTH.TXT WEST.TXT
+    [ ! -e "$left" ] && [ -e .flexbox-$$-0-disk.new ] || fail "not the right ones removed: $(ls -A)"
+    does check disk
+    hides "left by"
+    does rename disk WEST.TXT EAST.TXT
+    rm link .flexbox-$$-0-disk.new
+    fresh
+    patch "$(sector 1 6)" 0 0
+    witnessed WITNESS_STOP=2 -- repair --yes disk
+    left=$(basename "$(find . -name '*.new')")
+    ends 1 "" check disk
+    shows "left by a flexbox that is gone: $left;"
+    status=0
+    "${flexbox[@]}" repair --yes disk >out 2>err || status=$?
+    checks=$((checks + 1))
+    [ "$status" = 1 ] && [ ! -e "$left" ] || fail "status $status after a repair, left: $(ls -A)"
+    says "flexbox: disk: $left, left by a flexbox that is gone, is removed"
+    rm disk.before
 else
     echo "flexbox: no compiler here: the order of write, sync and rename was not tried"
 fi

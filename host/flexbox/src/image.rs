@@ -1,12 +1,13 @@
 //! Image files: opened, locked and read to be looked at or changed.
 //!
 //! The lock is flock's, on the image file itself: shared to look, exclusive from before a change is read until after the new
-//! image is in place. A change renames a new file over the old one, so whoever waits opens the path anew for each try, and looks,
+//! image is in place. Where somebody is asked before a change, that is done under the shared lock, and the exclusive one is taken then. A change renames a new file over the old one, so whoever waits opens the path anew for each try, and looks,
 //! once the lock is had, whether the path still leads to that file. Not everybody asks for the lock: so what was read is read again
 //! just before it is replaced.
 
 use crate::failure::{note, Failure};
 use crate::input;
+use crate::locks;
 use crate::replace;
 use posix::Lock;
 use std::fmt::Display;
@@ -22,6 +23,23 @@ const PAUSE: Duration = Duration::from_millis(20);
 /// A shorter wait than this is not worth a message.
 const QUIET: Duration = Duration::from_millis(300);
 
+/// What an image is opened for.
+#[derive(Clone, Copy, PartialEq, Eq)]
+enum Access {
+    Look,
+    LookToChange,
+    Change,
+}
+
+impl Access {
+    fn lock(self) -> Lock {
+        match self {
+            Access::Look | Access::LookToChange => Lock::Shared,
+            Access::Change => Lock::Exclusive,
+        }
+    }
+}
+
 /// An image file that is open and locked.
 pub struct Image {
     /// As it was typed: messages name it so.
@@ -36,53 +54,70 @@ pub struct Image {
 impl Image {
     /// Opens an image to look at it.
     pub fn look(named: &Path, wait: Duration) -> Result<Image, Failure> {
-        Image::open(named, Lock::Shared, wait)
+        Image::open(named, Access::Look, wait)
+    }
+
+    /// Opens an image to look at it and to change it later, once it is claimed: what `take` would refuse is refused at once.
+    pub fn look_to_change(named: &Path, wait: Duration) -> Result<Image, Failure> {
+        Image::open(named, Access::LookToChange, wait)
     }
 
     /// Opens an image to change it. A read-only file is a diskette with its write-protect tab: refused even for root.
     pub fn take(named: &Path, wait: Duration) -> Result<Image, Failure> {
-        Image::open(named, Lock::Exclusive, wait)
+        Image::open(named, Access::Change, wait)
+    }
+
+    /// The exclusive lock on what was looked at. Between the two locks others may change it: it must still be what was read.
+    pub fn claim(self, wait: Duration) -> Result<Image, Failure> {
+        let Image { named, file, seen, .. } = self;
+        drop(file);
+        let mut image = Image::take(&named, wait)?;
+        image.read()?;
+        match image.seen == seen {
+            true => Ok(image),
+            false => Err(Failure::File(changed_meanwhile(&named))),
+        }
     }
 
     /// Why `take` would refuse what is there, as far as that can be seen without opening it.
     pub fn unfit(named: &Path) -> Option<String> {
         match fs::metadata(named) {
-            Ok(metadata) => suits(&metadata, Lock::Exclusive).err(),
+            Ok(metadata) => suits(&metadata, Access::Change).err(),
             Err(error) if error.kind() == io::ErrorKind::NotFound => Some("a link that leads nowhere".to_string()),
             Err(error) => Some(error.to_string()),
         }
     }
 
     /// Each try begins at the name: an image that was replaced is not waited for while the new one is free.
-    fn open(named: &Path, lock: Lock, wait: Duration) -> Result<Image, Failure> {
+    fn open(named: &Path, access: Access, wait: Duration) -> Result<Image, Failure> {
         let mut patience = Patience::new(named, wait);
         loop {
-            let image = Image::open_file(named, lock)?;
-            if !image.try_lock(lock)? {
-                patience.pause()?;
+            let image = Image::open_file(named, access)?;
+            if !image.try_lock(access.lock())? {
+                patience.pause(|| image.metadata().map_or(String::new(), |file| locks::holders(&file)))?;
             } else if image.is_still_there().map_err(failed(named))? {
                 // The file may have got another mode or a second name meanwhile.
-                image.suits(lock)?;
+                image.suits(access)?;
                 return Ok(image);
             }
         }
     }
 
-    fn open_file(named: &Path, lock: Lock) -> Result<Image, Failure> {
+    fn open_file(named: &Path, access: Access) -> Result<Image, Failure> {
         // A link stays a link: what it leads to is replaced.
         let path = fs::canonicalize(named).map_err(failed(named))?;
         let metadata = fs::metadata(&path).map_err(failed(named))?;
-        suits(&metadata, lock).map_err(failed(named))?;
+        suits(&metadata, access).map_err(failed(named))?;
         // Should the path have become a FIFO by now, opening it does not wait.
         let mut options = OpenOptions::new();
-        options.read(true).write(lock == Lock::Exclusive).custom_flags(posix::OPEN_WITHOUT_WAITING);
+        options.read(true).write(access != Access::Look).custom_flags(posix::OPEN_WITHOUT_WAITING);
         let file = options.open(&path).map_err(failed(named))?;
         Ok(Image { named: named.to_path_buf(), path, file, seen: None })
     }
 
-    fn suits(&self, lock: Lock) -> Result<(), Failure> {
+    fn suits(&self, access: Access) -> Result<(), Failure> {
         let metadata = self.metadata().map_err(failed(&self.named))?;
-        suits(&metadata, lock).map_err(failed(&self.named))
+        suits(&metadata, access).map_err(failed(&self.named))
     }
 
     fn try_lock(&self, lock: Lock) -> Result<bool, Failure> {
@@ -144,6 +179,11 @@ impl Image {
     }
 }
 
+/// What is told of an image that is no longer what was read.
+pub fn changed_meanwhile(named: &Path) -> String {
+    format!("{}: changed meanwhile by another program; nothing is written", named.display())
+}
+
 fn leads_to(path: &Path, file: &Metadata) -> io::Result<bool> {
     match fs::metadata(path) {
         Ok(there) => Ok(is_same(&there, file)),
@@ -161,11 +201,11 @@ fn failed<W: Display>(named: &Path) -> impl Fn(W) -> Failure + '_ {
 }
 
 /// Whether this file may be opened as an image at all; if not, why.
-fn suits(metadata: &Metadata, lock: Lock) -> Result<(), String> {
+fn suits(metadata: &Metadata, access: Access) -> Result<(), String> {
     if !metadata.is_file() {
         return Err("not a regular file".to_string());
     }
-    if lock == Lock::Shared {
+    if access == Access::Look {
         return Ok(());
     }
     if metadata.mode() & 0o222 == 0 {
@@ -193,14 +233,15 @@ impl Patience<'_> {
         Patience { named, wait, began: Instant::now(), said: false }
     }
 
-    /// A moment's sleep, or, after all of the time, the end.
-    fn pause(&mut self) -> Result<(), Failure> {
+    /// A moment's sleep, or, after all of the time, the end. `holders` says who has the lock.
+    fn pause(&mut self, holders: impl Fn() -> String) -> Result<(), Failure> {
         let (name, seconds) = (self.named.display(), self.wait.as_secs());
         if self.began.elapsed() >= self.wait {
-            return Err(Failure::Locked(format!("{}: another program still has it locked after {} s", name, seconds)));
+            let what = format!("another program still has it locked after {} s", seconds);
+            return Err(Failure::Locked(format!("{}: {}{}", name, what, holders())));
         }
         if !self.said && self.began.elapsed() >= QUIET {
-            note(&format!("{}: locked by another program; waiting up to {} s", name, seconds));
+            note(&format!("{}: locked by another program; waiting up to {} s{}", name, seconds, holders()));
             self.said = true;
         }
         thread::sleep(PAUSE);

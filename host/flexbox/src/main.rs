@@ -8,13 +8,18 @@
 
 mod check;
 mod commands;
+mod diff;
 mod failure;
 mod image;
 mod input;
 mod json;
+mod leftovers;
+mod locks;
 mod page;
 mod plan;
+mod raw;
 mod replace;
+mod salvage;
 mod words;
 
 use failure::Failure;

@@ -1,7 +1,8 @@
 //! What a repair does to a diskette, told before it is done. The proved repair is made on a copy, and the two are compared: nothing here
 //! decides what a file keeps.
 
-use crate::check::{self, Check, Owner};
+use crate::check::{self, Check, Owner, Unreached};
+use crate::commands::dropping::drop_file;
 use flex::{Address, Diskette, Entry, Held, Name, Refusal, Slot, OWNER_DIRECTORY, OWNER_FREE};
 
 /// What is wrong, and what comes out.
@@ -31,12 +32,21 @@ pub struct Fate {
     pub next: Address,
     /// Who has that sector then, if it is a data sector.
     pub holder: Option<Owner>,
+    /// How many sectors behind what the slot states its chain leads over that no chain has. They can be read now, and are free then.
+    pub behind: usize,
+}
+
+/// What a repair takes away.
+#[derive(Debug, PartialEq, Eq)]
+pub struct Loss {
+    pub files: usize,
+    pub sectors: usize,
 }
 
 /// How one who wants a file whole that would be cut can have it, as far as trying it on a copy tells.
 pub struct WaysOut {
-    /// By deleting the file that it would be cut for, before the repair.
-    pub delete: Option<Name>,
+    /// By giving up the file that it would be cut for.
+    pub drop: Option<Name>,
     /// By reading it before the repair and writing it anew afterwards.
     pub save: bool,
 }
@@ -57,19 +67,37 @@ impl Repaired {
         let after = diskette.slots()?;
         let lost = lost(check);
         let is_free = |number: u16| held.iter().any(|one| one.sector == number && one.owner == OWNER_FREE);
+        let found = lost.iter().filter(|&&number| is_free(number)).count();
         let files = check.slots.iter().zip(&after);
         Ok(Repaired {
-            fates: files.filter_map(|(old, new)| fate(check, image, &held, old, new)).collect(),
+            fates: files.filter_map(|(old, new)| fate(check, image, &held, &lost, old, new)).collect(),
             free: held.iter().filter(|one| one.owner == OWNER_FREE).count(),
-            found: lost.into_iter().filter(|&number| is_free(number)).count(),
+            found,
             diskette,
         })
+    }
+
+    /// Files that lose something: nobody but the operator can say whether that may be.
+    pub fn losing(&self) -> impl Iterator<Item = &Fate> {
+        self.fates.iter().filter(|fate| fate.is_cut() || fate.behind > 0)
+    }
+
+    /// At most so much, with the files that the directory does not reach: a slot may state more sectors than the file ever had.
+    pub fn loss(&self, check: &Check) -> Loss {
+        let cut: usize = self.losing().map(|fate| fate.lost(check.shape.data_sectors())).sum();
+        let vanished: usize = vanishing(check).map(|file| file.loose).sum();
+        Loss { files: self.losing().count() + vanishing(check).count(), sectors: cut + vanished }
     }
 
     /// Files that are rightly chained and would be cut all the same: an earlier one, or the directory, has their sectors.
     pub fn wronged(&self) -> impl Iterator<Item = &Fate> {
         self.fates.iter().filter(|fate| fate.is_right && fate.is_cut())
     }
+}
+
+/// Files that the directory does not reach, and of which a repair would make sectors free.
+pub fn vanishing(check: &Check) -> impl Iterator<Item = &Unreached> {
+    check.unreached.iter().filter(|file| file.loose > 0)
 }
 
 /// The numbers of the data sectors that no chain holds.
@@ -81,7 +109,7 @@ fn lost(check: &Check) -> Vec<u16> {
     (0..held.len()).filter(|&number| !held[number]).map(|number| number as u16).collect()
 }
 
-fn fate(check: &Check, image: &[u8], held: &[Held], old: &Slot, new: &Slot) -> Option<Fate> {
+fn fate(check: &Check, image: &[u8], held: &[Held], lost: &[u16], old: &Slot, new: &Slot) -> Option<Fate> {
     let (entry, after) = (old.entry()?, new.entry()?);
     let next = match after.sectors {
         0 => entry.start,
@@ -95,7 +123,23 @@ fn fate(check: &Check, image: &[u8], held: &[Held], old: &Slot, new: &Slot) -> O
         is_right: check.of_slot(old.number).all(|finding| finding.number != 45),
         next,
         holder,
+        behind: behind(check, image, lost, next),
     })
+}
+
+/// How many sectors a chain leads over from here on that are in no chain.
+fn behind(check: &Check, image: &[u8], lost: &[u16], from: Address) -> usize {
+    let mut met = Vec::new();
+    let mut at = from;
+    while check.shape.is_data(at) {
+        let number = check.shape.number(at) as u16;
+        if lost.binary_search(&number).is_err() || met.contains(&number) {
+            break;
+        }
+        met.push(number);
+        at = Address::at(image, check.shape.offset(at));
+    }
+    met.len()
 }
 
 fn owner(held: &[Held], sector: usize) -> Owner {
@@ -115,6 +159,11 @@ impl Fate {
         self.kept < self.stated()
     }
 
+    /// How many sectors it loses at most, on a diskette that has so many.
+    pub fn lost(&self, data_sectors: usize) -> usize {
+        self.stated().min(data_sectors).saturating_sub(self.kept) + self.behind
+    }
+
     /// What can be done for this file before the diskette is repaired.
     pub fn ways_out(&self, plan: &Plan, image: &[u8]) -> WaysOut {
         let earlier = match self.holder {
@@ -122,15 +171,15 @@ impl Fate {
             _ => None,
         };
         WaysOut {
-            delete: earlier.filter(|name| self.is_whole_without(name, plan, image)),
+            drop: earlier.filter(|name| self.is_whole_without(name, plan, image)),
             save: self.is_saved_by_hand(image),
         }
     }
 
-    /// Whether the file keeps all its sectors where that other one is deleted first.
+    /// Whether the file keeps all its sectors where that other one is dropped.
     fn is_whole_without(&self, other: &Name, plan: &Plan, image: &[u8]) -> bool {
         let mut copy = Diskette::new(image.to_vec());
-        let held = copy.delete(other).and_then(|()| copy.repair()).and_then(|()| copy.survey());
+        let held = drop_file(&mut copy, other).and_then(|_| copy.repair()).and_then(|()| copy.survey());
         let chain = plan.check.chains.iter().find(|(owner, _)| *owner == Owner::File(self.slot));
         let (held, chain) = match (held, chain) {
             (Ok(held), Some((_, chain))) => (held, chain),

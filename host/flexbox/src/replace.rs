@@ -1,16 +1,17 @@
-//! A new image takes its place at once or not at all: over an old image, which may be kept beside it, or where no file is.
+//! A new image takes its place at once or not at all: over an old image, which may be kept beside it, or where no file is. So does a
+//! file that is read from a diskette.
 
-use crate::image::Image;
-use std::fs::{self, File, OpenOptions, Permissions};
+use crate::image::{changed_meanwhile, Image};
+use crate::leftovers;
+use std::fs::{self, File, Metadata, OpenOptions, Permissions};
 use std::io::{self, Write};
 use std::os::unix::fs::{MetadataExt, OpenOptionsExt, PermissionsExt};
 use std::path::{Path, PathBuf};
-use std::process;
 
 /// How many names are tried for a new file.
 const TRIES: u32 = 100;
 /// The mode of a file that only its owner may read until it is in place.
-pub const PRIVATE: u32 = 0o600;
+const PRIVATE: u32 = 0o600;
 /// The mode of a new file like any other, before the process's mask is taken from it.
 const USUAL: u32 = 0o666;
 
@@ -22,6 +23,8 @@ enum Place<'a> {
     Empty(&'a Path),
     /// Where no file is, beside this one, with its owner and mode: it is kept there.
     Beside(&'a Image, &'a Path),
+    /// A file of this machine: over this one, whose owner and mode are kept, or where no file is.
+    File(&'a Path, Option<&'a Metadata>),
 }
 
 /// What failed, and whether the new file was in its place by then.
@@ -39,7 +42,13 @@ enum Put {
 
 /// Puts `bytes` in the old image's place.
 pub fn replace(image: &Image, bytes: &[u8]) -> Result<(), String> {
+    leftovers::remove(image);
     save(&Place::Over(image), bytes).map_err(|unsaved| unsaved.why)
+}
+
+/// Makes a file of this machine of `bytes`: over the `old` one, or where no file is.
+pub fn write_file(path: &Path, old: Option<&Metadata>, bytes: &[u8]) -> Result<(), String> {
+    save(&Place::File(path, old), bytes).map_err(|unsaved| unsaved.why)
 }
 
 /// Makes a new image of `bytes`. A file that is there stays as it is, also one that came just now.
@@ -51,6 +60,7 @@ pub fn make(path: &Path, bytes: &[u8]) -> Result<(), String> {
 /// anew and not moved or linked: at no moment is there no image, and a file system without links will do. Where the image stays as
 /// it is, the file goes again.
 pub fn replace_keeping(image: &Image, old: &[u8], bytes: &[u8]) -> Result<PathBuf, String> {
+    leftovers::remove(image);
     let kept = keep(image, old)?;
     match save(&Place::Over(image), bytes) {
         Ok(()) => Ok(kept),
@@ -101,8 +111,9 @@ fn save(place: &Place, bytes: &[u8]) -> Result<(), Unsaved> {
     // Opened first, so that one who may not sync it learns so before anything is changed.
     let opened =
         File::open(folder).map_err(|error| not_yet(place.unsaved("its folder can't be opened to be synced", error)))?;
-    let (new, file) = create_beside(folder, place.mode())
-        .map_err(|error| not_yet(place.unsaved("a new image can't be made in its folder", error)))?;
+    let (new, file) = create_beside(folder, place).map_err(|error| {
+        not_yet(place.unsaved(&format!("a new {} can't be made in its folder", place.what()), error))
+    })?;
     let put = fill(file, place, bytes).and_then(|()| place.put(&new));
     if put.is_err() {
         // This file was made above, so nobody else's is deleted.
@@ -124,11 +135,11 @@ pub fn folder(path: &Path) -> &Path {
 }
 
 /// A file that was not there, with a name of its own.
-pub fn create_beside(folder: &Path, mode: u32) -> io::Result<(PathBuf, File)> {
+fn create_beside(folder: &Path, place: &Place) -> io::Result<(PathBuf, File)> {
     let mut number = 0;
     loop {
-        let path = folder.join(format!(".flexbox-{}-{}.new", process::id(), number));
-        match OpenOptions::new().write(true).create_new(true).mode(mode).open(&path) {
+        let path = folder.join(leftovers::name(place.path(), number));
+        match OpenOptions::new().write(true).create_new(true).mode(place.mode()).open(&path) {
             Ok(file) => return Ok((path, file)),
             Err(error) if error.kind() == io::ErrorKind::AlreadyExists && number < TRIES => number += 1,
             Err(error) => return Err(error),
@@ -137,38 +148,55 @@ pub fn create_beside(folder: &Path, mode: u32) -> io::Result<(PathBuf, File)> {
 }
 
 fn fill(mut file: File, place: &Place, bytes: &[u8]) -> Result<(), String> {
-    if let Place::Over(image) | Place::Beside(image, _) = place {
-        keep_owner_and_mode(&file, image)?;
-    }
+    keep_owner_and_mode(&file, place).map_err(|error| {
+        let name = place.named().display();
+        format!("{}: its owner and mode can't be given to the new {}: {}", name, place.what(), error)
+    })?;
     let written = file.write_all(bytes).and_then(|()| file.sync_all());
-    written.map_err(|error| place.unsaved("the new image could not be written beside it", error))
+    written.map_err(|error| place.unsaved(&format!("the new {} could not be written beside it", place.what()), error))
 }
 
 /// The owner first: a change of it can take mode bits away.
-fn keep_owner_and_mode(file: &File, image: &Image) -> Result<(), String> {
-    let kept = |error: io::Error| {
-        format!("{}: its owner and mode can't be given to the new image: {}", image.named().display(), error)
+fn keep_owner_and_mode(file: &File, place: &Place) -> io::Result<()> {
+    let old = match place {
+        Place::Over(image) | Place::Beside(image, _) => image.metadata()?,
+        Place::File(_, Some(old)) => (*old).clone(),
+        Place::File(_, None) | Place::Empty(_) => return Ok(()),
     };
-    let old = image.metadata().map_err(kept)?;
-    let new = file.metadata().map_err(kept)?;
+    let new = file.metadata()?;
     if (old.uid(), old.gid()) != (new.uid(), new.gid()) {
-        posix::set_owner(file, old.uid(), old.gid()).map_err(kept)?;
+        posix::set_owner(file, old.uid(), old.gid())?;
     }
-    file.set_permissions(Permissions::from_mode(old.mode() & 0o7777)).map_err(kept)
+    file.set_permissions(Permissions::from_mode(old.mode() & 0o7777))
 }
 
 impl Place<'_> {
     fn folder(&self) -> &Path {
         match self {
             Place::Over(image) => folder(image.path()),
-            Place::Empty(path) | Place::Beside(_, path) => folder(path),
+            Place::Empty(path) | Place::Beside(_, path) | Place::File(path, _) => folder(path),
+        }
+    }
+
+    /// What is to be changed or made, without links: the new file is named after it.
+    fn path(&self) -> &Path {
+        match self {
+            Place::Over(image) | Place::Beside(image, _) => image.path(),
+            Place::Empty(path) | Place::File(path, _) => path,
+        }
+    }
+
+    fn what(&self) -> &str {
+        match self {
+            Place::File(..) => "file",
+            _ => "image",
         }
     }
 
     fn mode(&self) -> u32 {
         match self {
-            Place::Over(_) | Place::Beside(..) => PRIVATE,
-            Place::Empty(_) => USUAL,
+            Place::Over(_) | Place::Beside(..) | Place::File(_, Some(_)) => PRIVATE,
+            Place::Empty(_) | Place::File(_, None) => USUAL,
         }
     }
 
@@ -176,7 +204,7 @@ impl Place<'_> {
     fn named(&self) -> &Path {
         match self {
             Place::Over(image) | Place::Beside(image, _) => image.named(),
-            Place::Empty(path) => path,
+            Place::Empty(path) | Place::File(path, _) => path,
         }
     }
 
@@ -184,6 +212,7 @@ impl Place<'_> {
     fn is_put(&self) -> &str {
         match self {
             Place::Over(_) | Place::Empty(_) => "the new image is in place",
+            Place::File(..) => "the new file is in place",
             Place::Beside(..) => "not changed: the old image was kept",
         }
     }
@@ -193,6 +222,8 @@ impl Place<'_> {
         let outcome = match self {
             Place::Over(_) => "not changed",
             Place::Empty(_) => "not made",
+            Place::File(_, Some(_)) => "not replaced",
+            Place::File(_, None) => "not written",
             Place::Beside(..) => "not changed, since the old image is not kept",
         };
         format!("{}: {}: {}: {}", self.named().display(), outcome, what, error)
@@ -202,6 +233,10 @@ impl Place<'_> {
         match self {
             Place::Over(image) => put_over(new, image),
             Place::Empty(path) => put_where_none_is(new, path, "not made"),
+            Place::File(path, None) => put_where_none_is(new, path, "not written"),
+            Place::File(path, Some(_)) => {
+                fs::rename(new, path).map(|()| Put::Renamed).map_err(|error| format!("{}: {}", path.display(), error))
+            }
             Place::Beside(image, path) => {
                 unchanged(image)?;
                 put_where_none_is(new, path, "the old image is not kept, nor changed")
@@ -226,7 +261,7 @@ fn unchanged(image: &Image) -> Result<(), String> {
     let name = image.named().display();
     match image.is_as_read() {
         Ok(true) => Ok(()),
-        Ok(false) => Err(format!("{}: changed meanwhile by another program; nothing is written", name)),
+        Ok(false) => Err(changed_meanwhile(image.named())),
         Err(error) => Err(format!("{}: it can't be read once more, so nothing is written: {}", name, error)),
     }
 }
@@ -265,6 +300,8 @@ mod tests {
     use super::*;
     use std::env;
     use std::os::unix::fs::symlink;
+    use std::os::unix::process::parent_id;
+    use std::process;
     use std::time::Duration;
 
     /// An empty folder of its own for a test.
@@ -294,11 +331,14 @@ mod tests {
         let folder = folder("others");
         let path = folder.join("disk");
         fs::write(&path, b"old").unwrap();
-        let taken = folder.join(format!(".flexbox-{}-0.new", process::id()));
-        fs::write(&taken, b"another's").unwrap();
+        let others = [format!(".flexbox-{}-0-disk.new", parent_id()), ".flexbox-4200000-0-disk2.new".to_string()];
+        others.iter().for_each(|other| fs::write(folder.join(other), b"another's").unwrap());
+        let left = folder.join(".flexbox-4200000-0-disk.new");
+        fs::write(&left, b"of a process that is gone").unwrap();
         replace(&take(&path), b"new").unwrap();
         assert_eq!(fs::read(&path).unwrap(), b"new");
-        assert_eq!(fs::read(&taken).unwrap(), b"another's");
+        others.iter().for_each(|other| assert_eq!(fs::read(folder.join(other)).unwrap(), b"another's"));
+        assert!(!left.exists());
         fs::remove_dir_all(&folder).unwrap();
     }
 
@@ -381,6 +421,23 @@ mod tests {
         let mode = |name| fs::metadata(folder.join(name)).unwrap().mode();
         assert_eq!((fs::read(&path).unwrap(), mode("disk")), (b"new".to_vec(), mode("usual")));
         assert_eq!(fs::read_dir(&folder).unwrap().count(), 2);
+        fs::remove_dir_all(&folder).unwrap();
+    }
+
+    #[test]
+    fn a_file_is_replaced_with_its_mode_or_made_where_none_is() {
+        let folder = folder("files");
+        let path = folder.join("file");
+        write_file(&path, None, b"old").unwrap();
+        assert!(write_file(&path, None, b"new")
+            .unwrap_err()
+            .ends_with("another file was put there meanwhile; not written"));
+        fs::set_permissions(&path, Permissions::from_mode(0o640)).unwrap();
+        let old = fs::metadata(&path).unwrap();
+        write_file(&path, Some(&old), b"new").unwrap();
+        let new = fs::metadata(&path).unwrap();
+        assert_eq!((fs::read(&path).unwrap(), new.mode(), new.uid()), (b"new".to_vec(), old.mode(), old.uid()));
+        assert_eq!(fs::read_dir(&folder).unwrap().count(), 1);
         fs::remove_dir_all(&folder).unwrap();
     }
 

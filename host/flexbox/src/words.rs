@@ -3,6 +3,7 @@
 use crate::failure::Failure;
 use std::ffi::{OsStr, OsString};
 use std::ops::RangeInclusive;
+use std::os::unix::ffi::OsStrExt;
 use std::path::Path;
 use std::time::Duration;
 
@@ -57,6 +58,17 @@ impl Words {
         Words { command: self.command, operands: vec![image.to_os_string()], options: Vec::new(), wait: self.wait }
     }
 
+    /// The same command with its options on each of the words by itself.
+    pub fn each(&self) -> Vec<Words> {
+        let one = |word: &OsString| Words {
+            command: self.command,
+            operands: vec![word.clone()],
+            options: self.options.clone(),
+            wait: self.wait,
+        };
+        self.operands.iter().map(one).collect()
+    }
+
     /// The same words and this option.
     pub fn with(&self, option: &'static str) -> Words {
         let options = self.options.iter().cloned().chain([(option, None)]).collect();
@@ -69,11 +81,16 @@ impl Words {
         let mut rest = words.iter();
         while let Some(word) = rest.next() {
             let text = word.to_str().unwrap_or("");
-            match command.option(text) {
+            let (name, joined) = split(word);
+            match command.option(name) {
+                Some((name, false)) if joined.is_some() => {
+                    return Err(command.misused(&format!("'{}' takes no value", name)));
+                }
                 Some((name, false)) => parsed.options.push((name, None)),
                 Some((name, true)) => {
-                    let value = rest.next().ok_or_else(|| command.misused(&format!("no value follows '{}'", name)))?;
-                    parsed.options.push((name, Some(value.clone())));
+                    let value = joined.or_else(|| rest.next().cloned());
+                    let value = value.ok_or_else(|| command.misused(&format!("no value follows '{}'", name)))?;
+                    parsed.options.push((name, Some(value)));
                 }
                 None if text == "--help" || text == "-h" => return Ok(None),
                 None if text == "--" => {
@@ -103,6 +120,11 @@ impl Words {
         self.options.iter().rev().find(|(name, _)| *name == option).and_then(|(_, value)| value.as_deref())
     }
 
+    /// All values of an option that can be typed several times.
+    pub fn values<'a>(&'a self, option: &'a str) -> impl Iterator<Item = &'a OsString> {
+        self.options.iter().filter(move |(name, _)| *name == option).filter_map(|(_, value)| value.as_ref())
+    }
+
     /// The number that is the value of an option, within its limits.
     pub fn number(&self, option: &str, what: &str, limits: RangeInclusive<u16>) -> Result<Option<u16>, Failure> {
         let number = |value: &OsStr| value.to_str()?.parse().ok().filter(|number| limits.contains(number));
@@ -112,6 +134,19 @@ impl Words {
                 Some(number) => Ok(Some(number)),
                 None => Err(self.unfit(option, &format!("{} from {} to {}", what, limits.start(), limits.end()))),
             },
+        }
+    }
+
+    /// A usage error of this command.
+    pub fn misused(&self, problem: &str) -> Failure {
+        self.command.misused(problem)
+    }
+
+    /// Where options change how many words follow the image: that there are as many.
+    pub fn expect_others(&self, counts: RangeInclusive<usize>) -> Result<(), Failure> {
+        match counts.contains(&self.others().len()) {
+            true => Ok(()),
+            false => Err(self.misused("wrong number of words")),
         }
     }
 
@@ -141,6 +176,47 @@ impl Words {
     }
 }
 
+/// "--wait=1" is an option and its value.
+fn split(word: &OsStr) -> (&str, Option<OsString>) {
+    let bytes = word.as_bytes();
+    match bytes.iter().position(|&byte| byte == b'=').filter(|_| bytes.starts_with(b"--")) {
+        Some(at) => {
+            let name = OsStr::from_bytes(&bytes[..at]).to_str().unwrap_or("");
+            (name, Some(OsStr::from_bytes(&bytes[at + 1..]).to_os_string()))
+        }
+        None => (word.to_str().unwrap_or(""), None),
+    }
+}
+
 pub fn text(word: &OsString) -> Result<&str, Failure> {
     word.to_str().ok_or_else(|| Failure::Usage(format!("'{}' is no text", word.to_string_lossy())))
+}
+
+/// A word as one would have to type it in a shell.
+pub fn quoted(word: &str) -> String {
+    let is_plain = |byte: u8| byte.is_ascii_alphanumeric() || b"_./,:@%+-=".contains(&byte);
+    match word.bytes().all(is_plain) && !word.is_empty() {
+        // What begins with a hyphen would be an option.
+        true if word.starts_with('-') => format!("./{}", word),
+        true => word.to_string(),
+        false => format!("'{}'", word.replace('\'', "'\\''")),
+    }
+}
+
+#[cfg(test)]
+mod tests {
+    use super::*;
+
+    #[test]
+    fn a_shell_takes_what_is_quoted_as_one_word() {
+        assert_eq!(quoted("disks/a.dsk"), "disks/a.dsk");
+        assert_eq!(quoted("my disk"), "'my disk'");
+        assert_eq!(quoted("it's $HOME"), "'it'\\''s $HOME'");
+        assert_eq!(quoted("--x"), "./--x");
+        assert_eq!(quoted(""), "''");
+        for word in ["a b", "a'b", "a\"b", "a\\b", "$(a)", "*", "a;b", "~", "a\nb", "\u{e4}", "#", "!"] {
+            let told = std::process::Command::new("sh").arg("-c").arg(format!("printf %s {}", quoted(word))).output();
+            assert_eq!(String::from_utf8(told.unwrap().stdout).unwrap(), word);
+        }
+    }
 }

@@ -1,6 +1,6 @@
-//! Five functions of the C library that flexbox needs and that std of Rust 1.63, Debian 12's, does not have: an advisory lock on
-//! a file, its owner set, a rename that replaces nothing, whether a file is a terminal, and the local date. All unsafe code of the host that is not a call of
-//! libflex.a is here. docs/DECISIONS.md says why they are declared here and not taken from a crate.
+//! What flexbox needs of the C library and std of Rust 1.63, Debian 12's, does not have: an advisory lock on a file, its owner set, a
+//! rename that replaces nothing, whether a file is a terminal, the local date, and whether standard output was closed from the start. All
+//! unsafe code of the host that is not a call of libflex.a is here. docs/DECISIONS.md says why it is declared here and not taken from a crate.
 
 use std::ffi::CString;
 use std::fs::File;
@@ -10,6 +10,7 @@ use std::os::unix::ffi::OsStrExt;
 use std::os::unix::io::AsRawFd;
 use std::path::Path;
 use std::ptr;
+use std::sync::atomic::{AtomicBool, Ordering};
 
 /// For `OpenOptionsExt::custom_flags`: opening a FIFO does not wait for its other end. The number is Linux's.
 pub const OPEN_WITHOUT_WAITING: i32 = 0o4000;
@@ -35,6 +36,7 @@ extern "C" {
     fn fchown(file: c_int, owner: c_uint, group: c_uint) -> c_int;
     fn renameat2(from_folder: c_int, from: *const c_char, to_folder: c_int, to: *const c_char, flags: c_uint) -> c_int;
     fn isatty(file: c_int) -> c_int;
+    fn fcntl(file: c_int, command: c_int, ...) -> c_int;
     fn time(stored: *mut i64) -> i64;
     fn localtime_r(seconds: *const i64, into: *mut BrokenDownTime) -> *mut BrokenDownTime;
 }
@@ -91,6 +93,27 @@ pub fn is_terminal(file: &impl AsRawFd) -> bool {
     // # Safety
     // isatty takes a number and touches no memory of this process. The descriptor is open as long as `file` lives.
     unsafe { isatty(file.as_raw_fd()) == 1 }
+}
+
+static OUTPUT_WAS_CLOSED: AtomicBool = AtomicBool::new(false);
+
+/// The C library calls what stands in this section before `main`, and so before std opens /dev/null for a standard output that is closed.
+#[used]
+#[link_section = ".init_array"]
+static BEFORE_MAIN: extern "C" fn() = look_at_output;
+
+extern "C" fn look_at_output() {
+    const STANDARD_OUTPUT: c_int = 1;
+    const GET_DESCRIPTOR_FLAGS: c_int = 1;
+    // # Safety
+    // fcntl takes two numbers here and touches no memory of this process. It fails where no file is open under that number.
+    let answer = unsafe { fcntl(STANDARD_OUTPUT, GET_DESCRIPTOR_FLAGS) };
+    OUTPUT_WAS_CLOSED.store(answer == -1, Ordering::Relaxed);
+}
+
+/// Whether standard output was closed when the program began. What is printed is lost then, and std says nothing of it.
+pub fn output_was_closed() -> bool {
+    OUTPUT_WAS_CLOSED.load(Ordering::Relaxed)
 }
 
 /// Today's date where the machine stands, by the variable TZ or the machine's time zone: year, month, day.

@@ -2,7 +2,7 @@
 
 use super::sectors::{holder, Owner};
 use super::Finding;
-use flex::{Address, Shape, Slot};
+use flex::{Address, Entry, Shape, Slot};
 
 /// Where the information record begins in an image.
 const INFORMATION: usize = 512;
@@ -50,6 +50,11 @@ impl Chain {
         let count = u16::from_be_bytes([image[INFORMATION + 33], image[INFORMATION + 34]]);
         let (start, end) = (Address::at(image, INFORMATION + 29), Address::at(image, INFORMATION + 31));
         Chain { owner: Owner::Free, start, end, count }
+    }
+
+    /// A file's, by its slot.
+    pub fn of_file(slot: usize, entry: &Entry) -> Chain {
+        Chain { owner: Owner::File(slot), start: entry.start, end: entry.end, count: entry.sectors }
     }
 
     pub fn walk(&self, image: &[u8], shape: Shape) -> Walked {

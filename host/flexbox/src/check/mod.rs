@@ -5,10 +5,12 @@
 mod chain;
 mod directory;
 mod sectors;
+mod unreached;
 
-pub use sectors::{file, holder, Owner};
+pub use chain::{Chain, Fault};
+pub use sectors::{file, holder, spans, Owner};
+pub use unreached::Unreached;
 
-use chain::Chain;
 use flex::{Address, Diskette, Refusal, Shape, Slot};
 use std::fmt;
 
@@ -43,6 +45,8 @@ pub struct Check {
     pub directory: Vec<Address>,
     /// The free chain, the data sectors of the directory, and the files' chains, each as far as its links are right.
     pub chains: Vec<(Owner, Vec<Address>)>,
+    /// What looks like files in sectors of track 0 that the directory does not reach.
+    pub unreached: Vec<Unreached>,
 }
 
 /// Looks at the whole diskette. Refused is only what is no image of a diskette (41).
@@ -70,7 +74,13 @@ pub fn check(diskette: &mut Diskette) -> Result<Check, Refusal> {
     if directory_is_right {
         findings.extend(sectors::lost(shape, &owners));
     }
-    Ok(Check { shape, verdict, findings, slots, directory, chains })
+    let unreached = unreached::files(image, shape, &directory, &owners);
+    Ok(Check { shape, verdict, findings, slots, directory, chains, unreached })
+}
+
+/// The directory's sectors as far as its links are right.
+pub fn directory(image: &[u8], shape: Shape) -> Vec<Address> {
+    directory::walk(image, shape).0
 }
 
 /// The data sectors among those of the directory: it has taken them when it had no slot left.
@@ -80,10 +90,7 @@ fn taken(directory: &[Address]) -> impl Iterator<Item = Address> + '_ {
 
 /// The free chain, then the live files', as they are stated.
 fn stated(image: &[u8], slots: &[Slot]) -> Vec<Chain> {
-    let files = slots.iter().filter_map(|slot| {
-        let entry = slot.entry()?;
-        Some(Chain { owner: Owner::File(slot.number), start: entry.start, end: entry.end, count: entry.sectors })
-    });
+    let files = slots.iter().filter_map(|slot| slot.entry().map(|entry| Chain::of_file(slot.number, entry)));
     [Chain::free(image)].into_iter().chain(files).collect()
 }
 

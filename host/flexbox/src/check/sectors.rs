@@ -82,6 +82,15 @@ fn addresses(shape: Shape, sectors: &[usize]) -> Vec<Address> {
 
 /// "sector 1,3 is" or "3 sectors are", with the ranges of their numbers: "1,3 to 1,5, 2,2".
 fn ranges(shape: Shape, sectors: &[usize]) -> String {
+    let words = spans(sectors, |number| shape.address(number));
+    match sectors.len() {
+        1 => format!("sector {} is", words[0]),
+        many => format!("{} sectors ({}) are", many, words.join("; ")),
+    }
+}
+
+/// Rising numbers of sectors, those that follow each other as one: "1,3 to 1,5".
+pub fn spans(sectors: &[usize], address: impl Fn(usize) -> Address) -> Vec<String> {
     let mut runs: Vec<(usize, usize)> = Vec::new();
     for &number in sectors {
         match runs.last_mut() {
@@ -89,15 +98,9 @@ fn ranges(shape: Shape, sectors: &[usize]) -> String {
             _ => runs.push((number, number)),
         }
     }
-    let words: Vec<String> = runs
-        .iter()
-        .map(|&(first, last)| match first == last {
-            true => shape.address(first).to_string(),
-            false => format!("{} to {}", shape.address(first), shape.address(last)),
-        })
-        .collect();
-    match sectors.len() {
-        1 => format!("sector {} is", words[0]),
-        many => format!("{} sectors ({}) are", many, words.join("; ")),
-    }
+    let word = |&(first, last): &(usize, usize)| match first == last {
+        true => address(first).to_string(),
+        false => format!("{} to {}", address(first), address(last)),
+    };
+    runs.iter().map(word).collect()
 }

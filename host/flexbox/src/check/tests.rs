@@ -110,3 +110,51 @@ fn a_finding_says_where() {
     assert_eq!(free[0], "the free chain: sector 1 of 1 is at 1,3, but its stated end is 0,0");
     assert_eq!(free[1], format!("sector 1,3 is held by the free chain and by {}", b));
 }
+
+/// What is told of files that the directory does not reach, on three tracks of seven sectors with two files in each of the directory's
+/// first two sectors, after these bytes are stored.
+fn unreached(stores: &[(usize, &[u8])]) -> Vec<String> {
+    let mut diskette = Diskette::new(blank(2, 7));
+    crowd(&mut diskette, 10);
+    diskette.put(&"A".parse().unwrap(), &[7; 504], [1, 2, 3]).unwrap();
+    (1..10).for_each(|n| {
+        let _ = diskette.create(0, &format!("F{}", n).parse().unwrap(), [1, 2, 3]);
+        diskette = Diskette::new(diskette.image().to_vec());
+    });
+    diskette.put(&"B".parse().unwrap(), &[7; 756], [1, 2, 3]).unwrap();
+    let mut image = diskette.image().to_vec();
+    for (at, bytes) in stores {
+        image[*at..at + bytes.len()].copy_from_slice(bytes);
+    }
+    check(&mut Diskette::new(image)).unwrap().unreached.iter().map(|file| file.to_string()).collect()
+}
+
+#[test]
+fn files_that_the_directory_does_not_reach_are_told_by_name() {
+    let slot = offset(7, 0, 6) + 16 + 24;
+    let b = "B.TXT (at 0,6 byte 40), 3 sectors from 1,3 to 1,5";
+    let told = |loose: usize| vec![format!("{}, {} of them in no chain", b, loose)];
+    let cut = |more: &[(usize, &'static [u8])]| unreached(&[&[(1024, &[0, 0][..])], more].concat());
+    assert_eq!(unreached(&[]), [""; 0]);
+    assert_eq!(cut(&[]), told(3));
+    // A link that leads astray cuts the directory short, too.
+    assert_eq!(unreached(&[(1024, &[9, 9])]), told(3));
+    // In its third sector there is nothing.
+    assert_eq!(unreached(&[(offset(7, 0, 6), &[0, 0])]), [""; 0]);
+    // Its chain ends early, or leads into A: then less of it is in no chain.
+    assert_eq!(cut(&[(offset(7, 1, 3), &[0, 0])]), told(1));
+    assert_eq!(cut(&[(offset(7, 1, 4), &[1, 1])]), told(2));
+    // What does not look like a file's slot is passed over.
+    let none: [(usize, &'static [u8]); 7] = [
+        (slot, &[255]),
+        (slot, b"9"),
+        (slot + 8, &[0]),
+        (slot + 13, &[0, 1]),
+        (slot + 15, &[3, 1]),
+        (slot + 17, &[0, 0]),
+        (slot + 17, &[0, 15]),
+    ];
+    for store in none {
+        assert_eq!(cut(&[store]), [""; 0], "{:?}", store);
+    }
+}

@@ -2,12 +2,12 @@
 //!
 //! A diskette that the census refuses is not changed: sound files could be lost. `--force` is for those who know.
 
-use super::{refused, refused_of};
+use super::{by_slot, hint, refused, refused_of, refused_with, told_name, with_extension};
 use crate::check;
 use crate::failure::{note, tell, Failure};
 use crate::image::Image;
-use crate::words::Words;
-use flex::{Diskette, Refusal};
+use crate::words::{quoted, Words};
+use flex::{Diskette, Name, Refusal};
 use std::path::Path;
 
 /// How many findings are told before the rest is only counted.
@@ -16,17 +16,32 @@ const TOLD: usize = 8;
 /// A change of the image that is saved only if no part of it was refused and the census accepts what comes out.
 pub fn change(words: &Words, work: impl FnOnce(&mut Diskette) -> Result<(), Failure>) -> Result<(), Failure> {
     let mut image = Image::take(words.image(), words.wait())?;
-    let mut diskette = Diskette::new(image.read()?);
+    let old = image.read()?;
+    let mut diskette = Diskette::new(old.clone());
     let was_sound = accept(words, &mut diskette)?;
     work(&mut diskette)?;
     match diskette.survey() {
-        Ok(_) => {}
         Err(refusal) if was_sound => {
-            return Err(refused(words.image(), "after the change, which is therefore not saved")(refusal));
+            Err(refused(words.image(), "after the change, which is therefore not saved")(refusal))
         }
-        Err(refusal) => note(&format!("{}: saved by --force; its census: {}", words.image().display(), refusal)),
+        _ if was_sound => image.save(diskette.image()),
+        survey => save_forced(words, image, &old, &diskette, survey.err()),
     }
-    image.save(diskette.image())
+}
+
+/// What was changed though it was damaged may have lost sound files: the old image is kept.
+fn save_forced(
+    words: &Words,
+    image: Image,
+    old: &[u8],
+    diskette: &Diskette,
+    refusal: Option<Refusal>,
+) -> Result<(), Failure> {
+    let kept = image.save_keeping(old, diskette.image())?;
+    let census = refusal.map_or("accepted".to_string(), |refusal| refusal.to_string());
+    let disk = words.image().display();
+    note(&format!("{}: saved by --force; its census: {}; the old image is {}", disk, census, kept.display()));
+    Ok(())
 }
 
 /// Whether the census accepts the diskette as it is. Where it does not, only `--force` goes on, and says so.
@@ -47,7 +62,8 @@ fn accept(words: &Words, diskette: &mut Diskette) -> Result<bool, Failure> {
         return Ok(false);
     }
     note(&format!("{}: not changed, since that could destroy sound files; --force would change it", name));
-    note(&format!("flexbox repair --dry-run {} says what a repair would do", name));
+    let word = quoted(&words.image().to_string_lossy());
+    note(&format!("flexbox repair --dry-run {} says what a repair would do", word));
     Err(Failure::Shown)
 }
 
@@ -58,24 +74,57 @@ pub fn say_where(image: &Path, diskette: &mut Diskette) {
             tell(&format!("  {} {}", finding.number, finding));
         }
         if check.findings.len() > TOLD {
-            tell(&format!("  and {} more: flexbox check {}", check.findings.len() - TOLD, image.display()));
+            let word = quoted(&image.to_string_lossy());
+            tell(&format!("  and {} more: flexbox check {}", check.findings.len() - TOLD, word));
         }
     }
 }
 
 /// `delete`
 pub fn delete(words: &Words) -> Result<(), Failure> {
+    if let Some(number) = by_slot::number_to_change(words)? {
+        words.expect_others(0..=0)?;
+        let what = by_slot::shown(number);
+        return change(words, |diskette| by_slot::delete(diskette, number).map_err(refused(words.image(), &what)));
+    }
+    words.expect_others(1..=1)?;
     let text = words.text(0)?;
     let name = super::typed(text)?;
-    change(words, |diskette| diskette.delete(&name).map_err(refused(words.image(), text)))
+    change(words, |diskette| {
+        let deleted = diskette.delete(&name);
+        deleted.map_err(|refusal| refused_with(words.image(), &told_name(text, &name, refusal, diskette), refusal))
+    })
 }
 
 /// `rename`
 pub fn rename(words: &Words) -> Result<(), Failure> {
-    let (old, new) = (words.text(0)?, words.text(1)?);
-    let (from, to) = (super::typed(old)?, super::typed(new)?);
-    let what = format!("{} to {}", old, new);
-    change(words, |diskette| diskette.rename(&from, &to).map_err(refused(words.image(), &what)))
+    let number = by_slot::number_to_change(words)?;
+    let others = if number.is_some() { 1 } else { 2 };
+    words.expect_others(others..=others)?;
+    let new = words.text(others - 1)?;
+    let to = super::typed(new)?;
+    if let Some(number) = number {
+        let what = format!("{} to {}", by_slot::shown(number), told_new(new, &to));
+        return change(words, |diskette| by_slot::rename(diskette, number, &to).map_err(refused(words.image(), &what)));
+    }
+    let old = words.text(0)?;
+    let from = super::typed(old)?;
+    change(words, |diskette| {
+        let renamed = diskette.rename(&from, &to);
+        renamed.map_err(|refusal| {
+            let names = format!("{} to {}", with_extension(old, &from), told_new(new, &to));
+            let what = names + &hint(&from, refusal, diskette);
+            refused_with(words.image(), &what, refusal)
+        })
+    })
+}
+
+/// Of a new name TXT is not taken for the extension.
+fn told_new(shown: &str, name: &Name) -> String {
+    match name.has_extension() {
+        true => shown.to_string(),
+        false => format!("{}, which has no extension, and a new name must have one", shown),
+    }
 }
 
 #[cfg(test)]

@@ -1,11 +1,14 @@
 //! `check`: what is damaged and where, in passes as fsck has them.
 
-use super::{look, plural, print, print_json, refused_of};
-use crate::check::{check, Check};
+use super::{look, on_each, plural, print, print_json, refused_of};
+use crate::check::{check, Check, Unreached};
 use crate::failure::Failure;
 use crate::json;
+use crate::leftovers;
 use crate::words::Words;
 use std::fmt::Write;
+use std::fs;
+use std::path::PathBuf;
 
 /// A pass for each rule of the census, in its order.
 const PASSES: [(u8, &str); 5] = [
@@ -16,18 +19,45 @@ const PASSES: [(u8, &str); 5] = [
     (46, "each sector in one chain"),
 ];
 
-/// Ends with status 1 where the census refuses.
+/// All that is known of one image; of several a line each. Ends with status 1 where the census refuses.
 pub fn run(words: &Words) -> Result<(), Failure> {
-    let mut diskette = look(words)?;
-    let check = check(&mut diskette).map_err(refused_of(words, &diskette))?;
+    match words.others() {
+        [] => one(words, as_text),
+        _ => on_each(words, |words| one(words, |words, check, _| last_line(words, check))),
+    }
+}
+
+fn one(words: &Words, as_text: impl Fn(&Words, &Check, &[String]) -> String) -> Result<(), Failure> {
+    let (check, left) = match look_at(words) {
+        Ok(seen) => seen,
+        Err(failure) => {
+            if words.has("--json") {
+                print_json(&unseen_as_json(words, &failure))?;
+            }
+            return Err(failure);
+        }
+    };
     match words.has("--json") {
-        true => print_json(&as_json(words, &check))?,
-        false => print(as_text(words, &check).as_bytes())?,
+        true => print_json(&as_json(words, &check, &left))?,
+        false => print(as_text(words, &check, &left).as_bytes())?,
     }
     check.verdict.map_err(|_| Failure::Shown)
 }
 
-fn as_text(words: &Words, check: &Check) -> String {
+fn look_at(words: &Words) -> Result<(Check, Vec<String>), Failure> {
+    let mut diskette = look(words)?;
+    let check = check(&mut diskette).map_err(refused_of(words, &diskette))?;
+    Ok((check, left_behind(words)))
+}
+
+/// The names of new files that a flexbox which is gone has left beside the image.
+fn left_behind(words: &Words) -> Vec<String> {
+    let path = fs::canonicalize(words.image()).unwrap_or_else(|_| words.image().to_path_buf());
+    let name = |left: &PathBuf| left.file_name().unwrap_or_default().to_string_lossy().into_owned();
+    leftovers::beside(&path).iter().map(name).collect()
+}
+
+fn as_text(words: &Words, check: &Check, left: &[String]) -> String {
     let mut text = String::new();
     for (i, (number, what)) in PASSES.iter().enumerate() {
         let _ = writeln!(text, "Pass {}: {}", i + 1, what);
@@ -38,8 +68,18 @@ fn as_text(words: &Words, check: &Check) -> String {
             text.push_str("  the slots can't be listed: names, files and their sectors are not checked\n");
         }
     }
+    text.push_str(&unreached(check));
+    for name in left {
+        let _ = writeln!(text, "  left by a flexbox that is gone: {}; the next change of the image removes it", name);
+    }
     text.push_str(&last_line(words, check));
     text
+}
+
+/// The files that the directory has lost, a line each.
+pub fn unreached(check: &Check) -> String {
+    let line = |file: &Unreached| format!("  not reached by the directory: {}\n", file);
+    check.unreached.iter().map(line).collect()
 }
 
 pub fn last_line(words: &Words, check: &Check) -> String {
@@ -62,7 +102,7 @@ pub fn last_line(words: &Words, check: &Check) -> String {
     }
 }
 
-pub fn as_json(words: &Words, check: &Check) -> String {
+pub fn as_json(words: &Words, check: &Check, left: &[String]) -> String {
     let findings = check.findings.iter().map(|finding| {
         json::Object::new()
             .with("number", finding.number)
@@ -82,5 +122,41 @@ pub fn as_json(words: &Words, check: &Check) -> String {
         .with("free_sectors", check.free_sectors())
         .with("directory_sectors", check.directory_sectors())
         .with("findings", json::list(findings))
+        .with("unreached", json::list(check.unreached.iter().map(unreached_as_json)))
+        .with("left_behind", json::list(left.iter().map(|name| json::text(name))))
+        .end()
+}
+
+/// The same fields for what is no image of a diskette, with 41, or could not be read, with null.
+pub fn unseen_as_json(words: &Words, failure: &Failure) -> String {
+    let (number, meaning) = match failure {
+        Failure::Refused(refusal, _) => (json::number(Some(refusal.number().into())), refusal.meaning().to_string()),
+        other => (json::number(None), other.to_string()),
+    };
+    let none = || json::number(None);
+    let empty = || json::list(Vec::new());
+    json::Object::new()
+        .with_text("image", &words.image().to_string_lossy())
+        .with("verdict", number)
+        .with_text("meaning", &meaning)
+        .with("files", none())
+        .with("data_sectors", none())
+        .with("free_sectors", none())
+        .with("directory_sectors", none())
+        .with("findings", empty())
+        .with("unreached", empty())
+        .with("left_behind", json::list(left_behind(words).iter().map(|name| json::text(name))))
+        .end()
+}
+
+fn unreached_as_json(file: &Unreached) -> String {
+    json::Object::new()
+        .with_text("name", &file.entry.name.to_string())
+        .with("directory_sector", json::address(file.place.sector))
+        .with("displacement", file.place.displacement)
+        .with("sectors", file.entry.sectors)
+        .with("start", json::address(file.entry.start))
+        .with("end", json::address(file.entry.end))
+        .with("in_no_chain", file.loose)
         .end()
 }

@@ -40,7 +40,7 @@ fn fill_a_new_one(words: &Words) -> Result<(), Failure> {
     let (image, date) = (words.image(), date::today()?);
     say(&format!("Format {}, a new diskette:", image.display()))?;
     let wanted = Wanted { tracks: 3, sectors: 6, label: *b"NEW\0\0\0\0\0\0\0\0", volume: 1, date };
-    make(image, &wanted, |bytes| replace::make(image, bytes).map_err(Failure::File))?;
+    make(image, &wanted, |bytes| replace::make(image, bytes).map(|()| None).map_err(Failure::File))?;
     say("Fill it with three logs, one call a byte. Its directory:")?;
     change(words, |diskette| {
         LOGS.iter().try_for_each(|&(name, bytes)| {

@@ -5,12 +5,12 @@ use crate::failure::Failure;
 use crate::image::Image;
 use crate::replace;
 use crate::words::Words;
-use flex::{Diskette, Refusal};
+use flex::{Diskette, Refusal, LARGEST_IMAGE};
 use std::ffi::OsStr;
 use std::fs;
 use std::io;
 use std::os::unix::ffi::OsStrExt;
-use std::path::Path;
+use std::path::{Path, PathBuf};
 
 /// How many tracks and sectors a track there are unless the words say otherwise.
 const TRACKS: u16 = 35;
@@ -32,12 +32,12 @@ pub fn run(words: &Words) -> Result<(), Failure> {
     make(words.image(), &wanted(words)?, |bytes| save(words, bytes))
 }
 
-/// The service makes it in memory before any file is touched. Once it is saved, what was there before is gone: a line that
-/// can't be printed must not hide that.
-pub fn make(image: &Path, wanted: &Wanted, save: impl FnOnce(&[u8]) -> Result<(), Failure>) -> Result<(), Failure> {
+/// The service makes it in memory before any file is touched. Once it is saved, another image is there: a line that can't be printed
+/// must not hide that.
+pub fn make(image: &Path, wanted: &Wanted, save: impl FnOnce(&[u8]) -> Saved) -> Result<(), Failure> {
     let diskette = blank(wanted).map_err(refused(image, NOT_MADE))?;
-    let free = keep(image, &diskette, save)?;
-    let line = format!(
+    let (free, kept) = keep(image, &diskette, save)?;
+    let mut lines = format!(
         "{}: blank, {} tracks of {} sectors, {} bytes, {} sectors free\n",
         image.display(),
         wanted.tracks,
@@ -45,17 +45,27 @@ pub fn make(image: &Path, wanted: &Wanted, save: impl FnOnce(&[u8]) -> Result<()
         diskette.image().len(),
         free
     );
-    try_print(line.as_bytes())
+    if let Some(kept) = kept {
+        lines.push_str(&format!("{}: the old image is {}\n", image.display(), kept.display()));
+    }
+    try_print(lines.as_bytes())
         .map_err(|problem| Failure::File(format!("{}: formatted, but {}", image.display(), problem)))
 }
 
 const NOT_MADE: &str = "the blank diskette, which is therefore not made";
 
-/// Saves a diskette that the census accepts, and gives how many of its sectors are free.
-fn keep(image: &Path, diskette: &Diskette, save: impl FnOnce(&[u8]) -> Result<(), Failure>) -> Result<usize, Failure> {
+/// Where the old image is kept, if there was one.
+type Saved = Result<Option<PathBuf>, Failure>;
+
+/// Saves a diskette that the census accepts, and gives how many of its sectors are free, and what saving gives.
+fn keep(
+    image: &Path,
+    diskette: &Diskette,
+    save: impl FnOnce(&[u8]) -> Saved,
+) -> Result<(usize, Option<PathBuf>), Failure> {
     let held = diskette.survey().map_err(refused(image, NOT_MADE))?;
-    save(diskette.image())?;
-    Ok(held.iter().filter(|held| held.owner == 0).count())
+    let kept = save(diskette.image())?;
+    Ok((held.iter().filter(|held| held.owner == 0).count(), kept))
 }
 
 fn blank(wanted: &Wanted) -> Result<Diskette, Refusal> {
@@ -91,20 +101,31 @@ fn label(word: &OsStr) -> Option<[u8; LABEL]> {
     bytes.iter().all(|&byte| byte == b' ' || byte.is_ascii_graphic()).then_some(label)
 }
 
-/// What is there already stays unless it is to be replaced, and then it is locked as for any other change.
-fn save(words: &Words, bytes: &[u8]) -> Result<(), Failure> {
+/// What is there already stays unless it is to be replaced, and then it is locked as for any other change, and kept.
+fn save(words: &Words, bytes: &[u8]) -> Saved {
     let path = words.image();
     match is_there(path)? {
-        false => replace::make(path, bytes).map_err(Failure::File),
-        true if words.has("--replace") => Image::take(path, words.wait())?.save(bytes),
+        false => replace::make(path, bytes).map(|()| None).map_err(Failure::File),
+        true if words.has("--replace") => put_over(words, bytes).map(Some),
         true => Err(Failure::File(format!("{}: it is there already{}", path.display(), way_out(path)))),
     }
+}
+
+/// What is larger than any diskette is not kept twice, and so not replaced.
+fn put_over(words: &Words, bytes: &[u8]) -> Result<PathBuf, Failure> {
+    let mut image = Image::take(words.image(), words.wait())?;
+    let old = image.read()?;
+    if old.len() > LARGEST_IMAGE {
+        let why = "more than 737,280 bytes, so no diskette; not replaced";
+        return Err(Failure::File(format!("{}: {}", words.image().display(), why)));
+    }
+    image.save_keeping(&old, bytes)
 }
 
 /// `--replace` is a way out only where it would not refuse what is there.
 fn way_out(path: &Path) -> String {
     match Image::unfit(path) {
-        None => "; --replace would replace it, and all files on it would be lost".to_string(),
+        None => "; --replace would make a blank one, and keep this one beside it".to_string(),
         Some(why) => format!(", and --replace would refuse it: {}", why),
     }
 }
@@ -128,13 +149,13 @@ mod tests {
         let mut kept = |image: Vec<u8>| {
             keep(Path::new("disk"), &Diskette::new(image), |bytes| {
                 saved.push(bytes.to_vec());
-                Ok(())
+                Ok(None)
             })
         };
         let mut damaged = diskettes::blank(1, 5);
         damaged[546] = 4;
         assert!(matches!(kept(damaged), Err(Failure::Refused(Refusal::CensusFree, _))));
-        assert!(matches!(kept(diskettes::blank(1, 5)), Ok(5)));
+        assert!(matches!(kept(diskettes::blank(1, 5)), Ok((5, None))));
         assert_eq!(saved, [diskettes::blank(1, 5)]);
     }
 

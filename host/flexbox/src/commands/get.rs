@@ -1,28 +1,28 @@
 //! `get`: the bytes of files, and whether they can be what was written.
 
 use super::pieces::{pieces, Piece};
-use super::{print, refused};
+use super::{by_slot, print_all, refused, refused_with, told_name};
 use crate::check::{self, Check};
 use crate::failure::{note, Failure};
 use crate::image::{is_same, Image};
-use crate::replace::{create_beside, folder, PRIVATE};
+use crate::replace::{folder, write_file};
 use crate::words::Words;
-use flex::{Diskette, Reading, Refusal};
+use flex::{Diskette, Name, Reading, Refusal, Slot};
 use std::fmt::Display;
-use std::fs::{self, Metadata, OpenOptions};
-use std::io::{self, Write};
+use std::fs::{self, Metadata};
+use std::os::unix::fs::MetadataExt;
 use std::path::{Path, PathBuf};
 
 /// All files are read before the first is given, so that a refusal gives nothing.
 pub fn run(words: &Words) -> Result<(), Failure> {
-    let pieces = pieces(words)?;
+    let pieces = wanted(words)?;
     let mut image = Image::look(words.image(), words.wait())?;
     let mut diskette = Diskette::new(image.read()?);
     let check = check::check(&mut diskette).map_err(refused(words.image(), "it can't be checked"))?;
     let mut readings = Vec::new();
     let mut all_sound = true;
     for piece in &pieces {
-        let reading = diskette.get(&piece.name).map_err(refused(words.image(), &piece.shown))?;
+        let reading = read(&mut diskette, piece).map_err(|refusal| unread(words, &mut diskette, piece, refusal))?;
         all_sound &= vouch(words, &check, piece, &reading)?;
         readings.push(reading);
     }
@@ -40,9 +40,40 @@ pub fn run(words: &Words) -> Result<(), Failure> {
     }
 }
 
+/// By names, or one by its slot: then the word behind the image, if there is one, is where it goes.
+fn wanted(words: &Words) -> Result<Vec<Piece>, Failure> {
+    match by_slot::number(words)? {
+        Some(number) => {
+            words.expect_others(0..=1)?;
+            let file = words.others().first().map(PathBuf::from);
+            let shown = by_slot::shown(number);
+            Ok(vec![Piece { name: Name::of([0; 11]), shown, slot: Some(number), file }])
+        }
+        None => {
+            words.expect_others(1..=usize::MAX)?;
+            pieces(words)
+        }
+    }
+}
+
+fn unread(words: &Words, diskette: &mut Diskette, piece: &Piece, refusal: Refusal) -> Failure {
+    let what = match piece.slot {
+        Some(_) => piece.shown.clone(),
+        None => told_name(&piece.shown, &piece.name, refusal, diskette),
+    };
+    refused_with(words.image(), &what, refusal)
+}
+
+fn read(diskette: &mut Diskette, piece: &Piece) -> Result<Reading, Refusal> {
+    match piece.slot {
+        Some(number) => by_slot::get(diskette, number),
+        None => diskette.get(&piece.name),
+    }
+}
+
 /// Whether the file is as its slot states and in no other chain. If not, only `--force` goes on.
 fn vouch(words: &Words, check: &Check, piece: &Piece, reading: &Reading) -> Result<bool, Failure> {
-    let doubts = doubts(check, reading);
+    let doubts = doubts(check, piece, reading);
     if let Some((refusal, _)) = doubts.first() {
         let texts: Vec<&str> = doubts.iter().map(|(_, text)| text.as_str()).collect();
         let failure = refused(words.image(), &format!("{}: {}", piece.shown, texts.join("; ")))(*refusal);
@@ -61,8 +92,12 @@ fn vouch(words: &Words, check: &Check, piece: &Piece, reading: &Reading) -> Resu
 }
 
 /// Why the bytes may not be the file's, each with the census's number for it.
-fn doubts(check: &Check, reading: &Reading) -> Vec<(Refusal, String)> {
-    let slot = check.slots.iter().find(|slot| slot.entry() == Some(&reading.entry));
+fn doubts(check: &Check, piece: &Piece, reading: &Reading) -> Vec<(Refusal, String)> {
+    let is_read = |slot: &&Slot| match piece.slot {
+        Some(number) => slot.number == number,
+        None => slot.entry() == Some(&reading.entry),
+    };
+    let slot = check.slots.iter().find(is_read);
     let found = slot.into_iter().flat_map(|slot| check.of_slot(slot.number));
     let mut doubts: Vec<(Refusal, String)> = found
         .map(|finding| (Refusal::of(finding.number as u32).unwrap_or(Refusal::CensusFile), finding.text.clone()))
@@ -105,13 +140,19 @@ fn look_at_places(words: &Words, pieces: &[Piece], image: &Metadata) -> Result<(
     Ok(())
 }
 
-/// A file that is there stays unless it is to be replaced; the image itself is never written to, and a folder can't be.
+/// A file that is there stays unless it is to be replaced, and a read-only one then, too; the image itself is never written to, and a
+/// folder can't be.
 fn unfit(path: &Path, replace: bool, image: &Metadata) -> Option<&'static str> {
     match fs::metadata(path) {
         Ok(there) if is_same(&there, image) => Some("this is the image itself"),
         Ok(there) if there.is_dir() => Some("this is a folder"),
-        _ if replace => None,
-        _ => fs::symlink_metadata(path).ok().map(|there| way_out(&there)),
+        Ok(there) if replace && there.is_file() && there.mode() & 0o222 == 0 => {
+            Some("it has no write permission; not replaced")
+        }
+        Ok(_) if replace => None,
+        Ok(there) => Some(way_out(&there)),
+        // A link that leads nowhere is no place for a file.
+        Err(_) => fs::symlink_metadata(path).ok().map(|_| "it is there already, a link that leads nowhere"),
     }
 }
 
@@ -135,40 +176,20 @@ fn unwritten(path: &Path, why: impl Display) -> Failure {
 
 fn give(words: &Words, piece: &Piece, bytes: &[u8]) -> Result<(), Failure> {
     match &piece.file {
-        None => print(bytes),
+        None => print_all(bytes),
         Some(path) => write(path, bytes, words.has("--replace")),
     }
 }
 
-/// A file that is to be replaced stays whole until the new one is; what is no plain file (a device, a link) is written to.
+/// A file takes its place whole or not at all, as an image does. A link stays: what it leads to is replaced. What is no plain file (a
+/// device, a FIFO) is written to.
 fn write(path: &Path, bytes: &[u8], replace: bool) -> Result<(), Failure> {
-    match fs::symlink_metadata(path) {
-        Ok(there) if replace && there.is_file() => put_over(path, &there, bytes),
+    match fs::metadata(path) {
+        Ok(there) if replace && there.is_file() => {
+            let target = fs::canonicalize(path).map_err(|error| unwritten(path, error))?;
+            write_file(&target, Some(&there), bytes).map_err(Failure::File)
+        }
         Ok(_) if replace => fs::write(path, bytes).map_err(|error| unwritten(path, error)),
-        _ => write_new(path, bytes),
+        _ => write_file(path, None, bytes).map_err(Failure::File),
     }
-}
-
-fn put_over(path: &Path, old: &Metadata, bytes: &[u8]) -> Result<(), Failure> {
-    let (new, mut file) = create_beside(folder(path), PRIVATE)
-        .map_err(|error| unwritten(path, format!("a new file can't be made beside it: {}", error)))?;
-    let filled = file.write_all(bytes).and_then(|()| file.set_permissions(old.permissions()));
-    filled.and_then(|()| fs::rename(&new, path)).map_err(|error| {
-        // Made above, and not in place.
-        let _ = fs::remove_file(&new);
-        unwritten(path, error)
-    })
-}
-
-fn write_new(path: &Path, bytes: &[u8]) -> Result<(), Failure> {
-    let opened = OpenOptions::new().write(true).create_new(true).open(path);
-    let mut file = opened.map_err(|error| match error.kind() {
-        io::ErrorKind::AlreadyExists => unwritten(path, "another file was put there meanwhile; not written"),
-        _ => unwritten(path, error),
-    })?;
-    file.write_all(bytes).map_err(|error| {
-        // Made above, and not whole.
-        let _ = fs::remove_file(path);
-        unwritten(path, error)
-    })
 }

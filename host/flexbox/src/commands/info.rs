@@ -1,6 +1,6 @@
 //! `info`: the shape of a diskette, its label and date, and how much is free.
 
-use super::{look, plural, print, print_json, refused_of};
+use super::{look, on_each, plural, print, print_json, refused_of};
 use crate::check::{check, Check};
 use crate::failure::Failure;
 use crate::json;
@@ -31,6 +31,14 @@ impl Record {
         })
     }
 
+    pub fn shown_label(&self) -> &str {
+        if self.label.is_empty() {
+            "none"
+        } else {
+            &self.label
+        }
+    }
+
     /// The date of the diskette as text.
     pub fn made(&self) -> String {
         match self.date {
@@ -47,7 +55,15 @@ fn label(bytes: &[u8]) -> String {
     bytes[..used].iter().map(shown).collect()
 }
 
+/// All of one image; of several a line each.
 pub fn run(words: &Words) -> Result<(), Failure> {
+    match words.others() {
+        [] => one(words, as_text),
+        _ => on_each(words, |words| one(words, line)),
+    }
+}
+
+fn one(words: &Words, as_text: impl Fn(&Words, &Record, &Check) -> String) -> Result<(), Failure> {
     let mut diskette = look(words)?;
     let refused = refused_of(words, &diskette);
     let record = Record::read(&mut diskette).map_err(&refused)?;
@@ -58,10 +74,30 @@ pub fn run(words: &Words) -> Result<(), Failure> {
     }
 }
 
+/// "disk: tracks 0 to 4 of 8 sectors, label MAIN, volume 1, made 12-03-81, 3 files, 19 sectors free, census accepted"
+fn line(words: &Words, record: &Record, check: &Check) -> String {
+    let files = check.files().map_or("files not known".to_string(), |files| plural(files, "file"));
+    format!(
+        "{}: tracks 0 to {} of {} sectors, label {}, volume {}, made {}, {}, {} free, census {}\n",
+        words.image().display(),
+        check.shape.last,
+        check.shape.per,
+        record.shown_label(),
+        record.volume,
+        record.made(),
+        files,
+        plural(record.free.into(), "sector"),
+        census(check)
+    )
+}
+
+fn census(check: &Check) -> String {
+    check.verdict.map_or_else(|refusal| refusal.to_string(), |()| "accepted".to_string())
+}
+
 fn as_text(words: &Words, record: &Record, check: &Check) -> String {
     let shape = check.shape;
     let sectors = (shape.last as usize + 1) * shape.per as usize;
-    let label = if record.label.is_empty() { "none" } else { &record.label };
     let free = match record.free {
         0 => "no sector".to_string(),
         count => format!("{} from {} to {}", plural(count as usize, "sector"), record.first_free, record.last_free),
@@ -74,23 +110,35 @@ fn as_text(words: &Words, record: &Record, check: &Check) -> String {
         }
         (None, _) => "not known: the slots can't be listed".to_string(),
     };
-    let census = check.verdict.map_or_else(|refusal| refusal.to_string(), |()| "accepted".to_string());
     format!(
         "image    {}, {} bytes\nshape    tracks 0 to {} (M), {} sectors a track (S): {} sectors, {} of them for files\n\
-         label    {}\nvolume   {}\nmade     {}\nfree     {}\nfiles    {}\ncensus   {}\n",
+         label    {}\nvolume   {}\nmade     {}\nfree     {}\nfiles    {}\n{}census   {}\n",
         words.image().display(),
         sectors * flex::SECTOR,
         shape.last,
         shape.per,
         sectors,
         shape.data_sectors(),
-        label,
+        record.shown_label(),
         record.volume,
         record.made(),
         free,
         files,
-        census
+        unreached(check),
+        census(check)
     )
+}
+
+/// A line that is there only where there is something to tell.
+fn unreached(check: &Check) -> String {
+    match names(check).as_slice() {
+        [] => String::new(),
+        names => format!("beyond   in sectors of track 0 that the directory does not reach: {}\n", names.join(", ")),
+    }
+}
+
+fn names(check: &Check) -> Vec<String> {
+    check.unreached.iter().map(|file| file.entry.name.to_string()).collect()
 }
 
 pub fn as_json(words: &Words, record: &Record, check: &Check) -> String {
@@ -109,5 +157,6 @@ pub fn as_json(words: &Words, record: &Record, check: &Check) -> String {
         .with("files", json::number(check.files()))
         .with("slots", json::number(check.files().map(|_| check.slots.len())))
         .with("census", check.verdict.map_or_else(Refusal::number, |()| 0))
+        .with("unreached", json::list(names(check).iter().map(|name| json::text(name))))
         .end()
 }

@@ -4,7 +4,7 @@
 //! file, `get --files disk NIGHT.TXT` makes the file NIGHT.TXT in the current folder. One NAME.EXT alone is standard input
 //! or output.
 
-use super::typed;
+use super::{full, typed};
 use crate::failure::Failure;
 use crate::words::{text, Words};
 use flex::Name;
@@ -16,6 +16,8 @@ pub struct Piece {
     pub name: Name,
     /// The name as it was typed.
     pub shown: String,
+    /// The number of its slot, where it is reached by that and not by the name.
+    pub slot: Option<usize>,
     /// None: standard input or output.
     pub file: Option<PathBuf>,
 }
@@ -47,7 +49,7 @@ fn piece(word: &OsString, files: bool) -> Result<Piece, Failure> {
         None => (word.clone(), None),
     };
     let shown = text(&shown)?.to_string();
-    Ok(Piece { name: typed(&shown)?, shown, file })
+    Ok(Piece { name: typed(&shown)?, shown, slot: None, file })
 }
 
 /// The word is a path as it stands: a folder may well have a '=' in its name. A file on a diskette has none, so one who
@@ -58,16 +60,7 @@ fn of_path(word: &OsString) -> Result<Piece, Failure> {
         let why = "with --files each word is a FILE, and no name on a diskette has a '='; NAME.EXT=FILE is for without --files";
         return Err(Failure::Usage(format!("'{}': {}", word.to_string_lossy(), why)));
     }
-    Ok(Piece { name: typed(&shown)?, shown, file: Some(PathBuf::from(word)) })
-}
-
-/// The name as the service takes it: with TXT where it has no extension.
-fn full(name: &Name) -> [u8; 11] {
-    let mut bytes = *name.bytes();
-    if !name.has_extension() {
-        bytes[8..].copy_from_slice(b"TXT");
-    }
-    bytes
+    Ok(Piece { name: typed(&shown)?, shown, slot: None, file: Some(PathBuf::from(word)) })
 }
 
 fn os(bytes: &[u8]) -> OsString {

@@ -2,38 +2,77 @@
 //!
 //! Exit status: 0 nothing was wrong, and nothing is written; 1 repaired; 2 not repaired, with the reason.
 
-use super::{check, plural, print, try_print};
-use crate::check::{file, holder, Owner};
+use super::check as report;
+use super::dropping::drop_file;
+use super::{full, plural, print, told_name, try_print, typed, wrong_length};
+use crate::check::{self, file, holder, Check, Owner};
 use crate::failure::Failure;
 use crate::image::Image;
 use crate::input;
-use crate::plan::{Fate, Plan, Repaired};
-use crate::words::Words;
+use crate::plan::{vanishing, Fate, Plan, Repaired};
+use crate::words::{quoted, text, Words};
 use flex::{Address, Diskette, Refusal};
 use std::fmt::Write;
 
 pub fn run(words: &Words) -> Result<(), Failure> {
+    // Others may read while somebody thinks about the question; the lock to change it is taken after the answer.
     let mut image = match words.has("--dry-run") {
         true => Image::look(words.image(), words.wait())?,
-        false => Image::take(words.image(), words.wait())?,
+        false => Image::look_to_change(words.image(), words.wait())?,
     };
     let old = image.read()?;
     let mut diskette = Diskette::new(old.clone());
-    let plan = Plan::of(&mut diskette).map_err(|refusal| unrepairable(words, refusal, ""))?;
-    print(check::last_line(words, &plan.check).as_bytes())?;
-    if plan.check.verdict.is_ok() {
-        return Ok(());
+    let found = check::check(&mut diskette).map_err(|refusal| unrepairable(words, refusal, &wrong_length(&old)))?;
+    print(told_first(words, &found).as_bytes())?;
+    if found.verdict.is_ok() {
+        return nothing_wrong(words);
     }
-    print(findings(&plan).as_bytes())?;
+    let dropped = drop_files(words, &mut diskette)?;
+    let plan = Plan::of(&mut diskette).map_err(|refusal| unrepairable(words, refusal, ""))?;
     let repaired = plan.repaired.as_ref().map_err(|&refusal| unrepairable(words, refusal, &reason(&plan, refusal)))?;
-    print(told(words, &plan, repaired, &old).as_bytes())?;
+    print((dropped + &told(words, &plan, repaired, diskette.image())).as_bytes())?;
     if words.has("--dry-run") {
         print(b"a dry run: nothing is written\n")?;
         return Err(Failure::Shown);
     }
     agree(words, &plan, repaired)?;
-    save(words, image, &old, repaired)?;
+    save(words, image.claim(words.wait())?, &old, repaired)?;
     Err(Failure::Shown)
+}
+
+/// What is wrong, before anything is done about it.
+fn told_first(words: &Words, found: &Check) -> String {
+    let line = report::last_line(words, found);
+    match found.verdict {
+        Ok(()) => line,
+        Err(_) => line + &findings(found) + &report::unreached(found),
+    }
+}
+
+/// A sound diskette is not written at all; one who wants a file gone from it has asked the wrong command.
+fn nothing_wrong(words: &Words) -> Result<(), Failure> {
+    match words.has("--drop") {
+        false => Ok(()),
+        true => {
+            let why = "nothing is wrong with it, so no file is dropped; flexbox delete deletes one";
+            Err(Failure::Unrepaired(format!("{}: {}", words.image().display(), why)))
+        }
+    }
+}
+
+/// The files that are given up, each told in a line.
+fn drop_files(words: &Words, diskette: &mut Diskette) -> Result<String, Failure> {
+    let mut lines = String::new();
+    for word in words.values("--drop") {
+        let typed_name = text(word)?;
+        let name = full(&typed(typed_name)?);
+        drop_file(diskette, &name).map_err(|refusal| {
+            let (disk, told) = (words.image().display(), told_name(typed_name, &name, refusal, diskette));
+            Failure::Unrepaired(format!("{}: not changed, since {} can't be dropped: {}", disk, told, refusal))
+        })?;
+        let _ = writeln!(lines, "{} is dropped first", name);
+    }
+    Ok(lines)
 }
 
 /// Once it is saved, a line that can't be printed must not hide that.
@@ -46,7 +85,14 @@ fn save(words: &Words, image: Image, old: &[u8], repaired: &Repaired) -> Result<
 
 fn unrepairable(words: &Words, refusal: Refusal, why: &str) -> Failure {
     let colon = if why.is_empty() { "" } else { ": " };
-    Failure::Unrepaired(format!("{}: not repairable: {}{}{}", words.image().display(), refusal, colon, why))
+    let way_out = match refusal {
+        Refusal::CensusNames => String::new(),
+        _ => {
+            let disk = quoted(&words.image().to_string_lossy());
+            format!("; flexbox salvage {} FOLDER saves what can be read", disk)
+        }
+    };
+    Failure::Unrepaired(format!("{}: not repairable: {}{}{}{}", words.image().display(), refusal, colon, why, way_out))
 }
 
 /// What one who reads the refusal needs to know of it.
@@ -59,8 +105,8 @@ fn reason(plan: &Plan, refusal: Refusal) -> String {
     }
 }
 
-fn findings(plan: &Plan) -> String {
-    plan.check.findings.iter().map(|finding| format!("  {} {}\n", finding.number, finding)).collect()
+fn findings(check: &Check) -> String {
+    check.findings.iter().map(|finding| format!("  {} {}\n", finding.number, finding)).collect()
 }
 
 /// What each file keeps, what is free then, and which sound files lose something.
@@ -77,6 +123,10 @@ fn told(words: &Words, plan: &Plan, repaired: &Repaired, image: &[u8]) -> String
         }
     };
     let _ = writeln!(text, "  free: {}{}", plural(repaired.free, "sector"), found);
+    let loss = repaired.loss(&plan.check);
+    if loss.files > 0 {
+        let _ = writeln!(text, "  lost: up to {} of {}", plural(loss.sectors, "sector"), plural(loss.files, "file"));
+    }
     for fate in repaired.wronged() {
         text.push_str(&wronged(words, plan, fate, image));
     }
@@ -119,17 +169,18 @@ fn why_cut(plan: &Plan, fate: &Fate) -> String {
 
 /// A sound file that would be cut: for whom, and what one can do about it before.
 fn wronged(words: &Words, plan: &Plan, fate: &Fate, image: &[u8]) -> String {
-    let (disk, name, other) = (words.image().display(), fate.entry.name, taker(plan, fate));
+    let (name, other) = (fate.entry.name, taker(plan, fate));
     let is_damaged =
         matches!(fate.holder, Some(Owner::File(slot)) if plan.check.of_slot(slot).any(|one| one.number == 45));
     let which = if is_damaged { "which is damaged and comes before it" } else { "which comes before it" };
     let mut text = format!("{} is rightly chained, and would be cut for {}, {}.\n", name, other, which);
     let ways = fate.ways_out(plan, image);
-    if let Some(earlier) = ways.delete {
+    let disk = quoted(&words.image().to_string_lossy());
+    if let Some(earlier) = ways.drop {
         let _ = writeln!(
             text,
-            "  to keep all of {} and lose {}: flexbox delete --force {} {}, and repair then",
-            name, earlier, disk, earlier
+            "  to keep all of {} and lose {}: flexbox repair --drop {} {}",
+            name, earlier, earlier, disk
         );
     }
     if ways.save {
@@ -147,26 +198,48 @@ fn taker(plan: &Plan, fate: &Fate) -> String {
     fate.holder.map_or(String::new(), |owner| holder(owner, &plan.check.slots))
 }
 
-/// Where a sound file would be cut, somebody has to say so.
+/// Where a file would lose something, somebody has to say that it may.
 fn agree(words: &Words, plan: &Plan, repaired: &Repaired) -> Result<(), Failure> {
-    if words.has("--yes") || repaired.wronged().next().is_none() {
+    if words.has("--yes") || repaired.loss(&plan.check).files == 0 {
         return Ok(());
     }
-    let (disk, cut) = (words.image().display(), would_be_cut(plan, repaired));
+    let (disk, lost) = (words.image().display(), would_be_lost(plan, repaired));
     if !input::can_ask() {
         let why = "standard input is no terminal to ask at; --yes repairs it all the same";
-        return Err(Failure::Unrepaired(format!("{}: not changed, since {}; {}", disk, cut, why)));
+        return Err(Failure::Unrepaired(format!("{}: not changed, since {}; {}", disk, lost, why)));
     }
-    match input::ask(&format!("flexbox: {}: {}. Repair it all the same? [y/N] ", disk, cut)) {
+    match input::ask(&format!("flexbox: {}: {}. Repair it all the same? [y/N] ", disk, lost)) {
         true => Ok(()),
         false => Err(Failure::Unrepaired(format!("{}: not changed", disk))),
     }
 }
 
-/// The files that are rightly chained and would be cut, and for whom: what was printed of them may have gone to a file, where the one
-/// who is asked does not see it.
-fn would_be_cut(plan: &Plan, repaired: &Repaired) -> String {
-    let one = |fate: &Fate| format!("{} for {}", fate.entry.name, taker(plan, fate));
-    let all: Vec<String> = repaired.wronged().map(one).collect();
-    format!("{} would be cut: {}", plural(all.len(), "rightly chained file"), all.join(", "))
+/// How many files the question names before the rest is only counted.
+const NAMED: usize = 8;
+
+/// What is lost, counted, and by whom: what was printed of it may have gone to a file, where the one who is asked does not see it.
+fn would_be_lost(plan: &Plan, repaired: &Repaired) -> String {
+    let loss = repaired.loss(&plan.check);
+    let cut = repaired.losing().map(|fate| losing(plan, fate));
+    let vanished = vanishing(&plan.check).map(|file| {
+        format!("{} (not reached by the directory, {} in no chain)", file.entry.name, plural(file.loose, "sector"))
+    });
+    let mut files: Vec<String> = cut.chain(vanished).take(NAMED).collect();
+    if loss.files > NAMED {
+        files.push(format!("{} more", loss.files - NAMED));
+    }
+    let (count, sectors) = (plural(loss.files, "file"), plural(loss.sectors, "sector"));
+    format!("{} would lose up to {}: {}", count, sectors, files.join(", "))
+}
+
+/// "NORTH.TXT (5 to 2 sectors)", and for whom where the chain of the one that is cut is right.
+fn losing(plan: &Plan, fate: &Fate) -> String {
+    let name = fate.entry.name;
+    match fate.is_cut() {
+        false => format!("{} ({} behind its stated size)", name, plural(fate.behind, "sector")),
+        true if fate.is_right => {
+            format!("{} ({} to {}, for {})", name, fate.stated(), plural(fate.kept, "sector"), taker(plan, fate))
+        }
+        true => format!("{} ({} to {})", name, fate.stated(), plural(fate.kept, "sector")),
+    }
 }

@@ -42,11 +42,10 @@ pub fn facts(record: &Record, check: &Check) -> String {
     let shape = check.shape;
     let all = shape.data_sectors();
     let free = check.free_sectors();
-    let label = if record.label.is_empty() { "none" } else { &record.label };
     let facts = [
         ("Tracks", format!("0 to {}", shape.last)),
         ("Sectors a track", shape.per.to_string()),
-        ("Label", label.to_string()),
+        ("Label", record.shown_label().to_string()),
         ("Volume", record.volume.to_string()),
         ("Made", record.made()),
         ("Files", check.files().map_or("not known".to_string(), |files| files.to_string())),

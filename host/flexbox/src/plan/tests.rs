@@ -64,6 +64,27 @@ fn lost_sectors_are_counted_and_found_again() {
 }
 
 #[test]
+fn what_is_lost_is_counted() {
+    let loss = |stores: &[(usize, &[u8])]| {
+        let plan = plan(stores).0;
+        let loss = plan.repaired.unwrap().loss(&plan.check);
+        (loss.files, loss.sectors)
+    };
+    assert_eq!(loss(&[]), (0, 0));
+    assert_eq!(loss(&[(offset(5, 1, 3), &[0, 0])]), (1, 2));
+    assert_eq!(loss(&[(offset(5, 1, 3), &[0, 0]), (offset(5, 1, 1), &[9, 9])]), (2, 3));
+    // B states one of its three sectors, or none: the others can be read now. A and C have none behind theirs.
+    assert_eq!(loss(&[(slot(2) + 17, &[0, 1])]), (1, 2));
+    assert_eq!(loss(&[(slot(2) + 17, &[0, 0])]), (1, 3));
+    // It states more than the diskette has.
+    assert_eq!(loss(&[(slot(2) + 17, &[255, 255])]), (1, 7));
+    // A runs on into what B or the free chain has: nothing of A is there. And over lost sectors in a circle.
+    assert_eq!(loss(&[(offset(5, 1, 2), &[1, 3])]), (0, 0));
+    assert_eq!(loss(&[(offset(5, 1, 2), &[2, 2])]), (0, 0));
+    assert_eq!(loss(&[(slot(2), &[255]), (offset(5, 1, 2), &[1, 3]), (offset(5, 1, 5), &[1, 4])]), (1, 3));
+}
+
+#[test]
 fn a_file_that_is_rightly_chained_is_told_apart() {
     let wronged = |stores: &[(usize, &[u8])]| {
         let repaired = plan(stores).0.repaired.unwrap();
@@ -82,7 +103,7 @@ fn a_way_out_is_told_where_it_is_one() {
         let (plan, image) = plan(stores);
         let fates = &plan.repaired.as_ref().unwrap().fates;
         let ways = fates[1].ways_out(&plan, &image);
-        (ways.delete.map(|name| name.to_string()), ways.save)
+        (ways.drop.map(|name| name.to_string()), ways.save)
     };
     let shared = [(offset(5, 1, 1), &[1, 5][..]), (slot(1) + 15, &[1, 5])];
     assert_eq!(ways(&shared), (Some("A.TXT".to_string()), true));
@@ -91,8 +112,8 @@ fn a_way_out_is_told_where_it_is_one() {
     assert_eq!(ways(&more(slot(1) + 11, &[128])), (None, true));
     assert_eq!(ways(&more(slot(2) + 11, &[32])), (Some("A.TXT".to_string()), false));
     assert_eq!(ways(&more(slot(1), &[1])), (None, true));
-    // The free chain ends in B, which a delete would therefore break.
-    assert_eq!(ways(&more(543, &[1, 3])), (None, true));
+    // The free chain ends in B, which a delete would break; to drop A does not touch it.
+    assert_eq!(ways(&more(543, &[1, 3])), (Some("A.TXT".to_string()), true));
     // However little is free by the record: a repair finds the rest.
     assert_eq!(ways(&more(541, &[2, 2, 2, 2, 0, 1])), (Some("A.TXT".to_string()), true));
 }
