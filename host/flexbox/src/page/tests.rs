@@ -257,11 +257,14 @@ fn a_page_of_very_many_files_is_no_longer_than_can_be_read() {
     let none = |_| ([0, 0], [0, 0], 0);
     let shared = |_| ([41, 1], [41, 1], 1);
     let long = |_| ([41, 1], [79, 36], 1404);
-    let images = [
-        diskettes::crowded(79, 36, 2844, none),
-        diskettes::crowded(79, 36, 1440, shared),
-        diskettes::crowded(79, 36, 1440, long),
-    ];
+    let kinds: [(usize, File); 3] = [(2844, none), (1440, shared), (1440, long)];
+    let mut images = kinds.map(|(taken, file)| diskettes::crowded(79, 36, taken, file));
+    // In the last one all files go the same way to the end.
+    let shape = flex::Shape { last: 79, per: 36 };
+    for number in 1440..2843 {
+        let (at, next) = (shape.offset(shape.address(number)), shape.address(number + 1));
+        images[2][at..at + 2].copy_from_slice(&[next.track, next.sector]);
+    }
     for (image, files) in images.into_iter().zip([28_760, 14_720, 14_720]) {
         let page = page_of("disk", image);
         assert!(page.len() < 3_000_000, "{} bytes", page.len());
