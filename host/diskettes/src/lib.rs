@@ -33,6 +33,32 @@ pub fn with_directory(last: usize, per: usize, directory: &[usize]) -> Vec<u8> {
     image
 }
 
+/// A diskette whose directory has all of track 0's sectors from 5 on and the first `taken` data sectors, with a file in every slot: `file`
+/// gives its start, end and size by its number from 0 on. No sector is free, and none but the directory's has a link.
+pub fn crowded(last: usize, per: usize, taken: usize, file: impl Fn(usize) -> ([u8; 2], [u8; 2], u16)) -> Vec<u8> {
+    const SLOTS: usize = 10;
+    let mut image = blank(last, per);
+    let data_begins = offset(per, 1, 1);
+    image[data_begins..].fill(0);
+    image[541..547].fill(0);
+    let shape = Shape { last: last as u8, per: per as u8 };
+    let track_0 = (FIRST_OF_DIRECTORY..=per).map(|sector| Address::new(0, sector as u8));
+    let directory: Vec<Address> = track_0.chain((0..taken).map(|number| shape.address(number))).collect();
+    for (i, &sector) in directory.iter().enumerate() {
+        let at = shape.offset(sector);
+        let next = directory.get(i + 1).copied().unwrap_or(Address::NONE);
+        image[at..at + 2].copy_from_slice(&[next.track, next.sector]);
+        for (k, slot) in image[at + 16..at + 256].chunks_mut(24).enumerate() {
+            let (start, end, size) = file(SLOTS * i + k);
+            slot[..11].copy_from_slice(format!("F{:07}TXT", SLOTS * i + k).as_bytes());
+            slot[13..15].copy_from_slice(&start);
+            slot[15..17].copy_from_slice(&end);
+            slot[17..19].copy_from_slice(&size.to_be_bytes());
+        }
+    }
+    image
+}
+
 /// Links a sector of track 0 to another one of it; 0 ends the chain.
 fn link(image: &mut [u8], per: usize, from: usize, to: usize) {
     let at = offset(per, 0, from);

@@ -98,7 +98,7 @@ fresh
 truncate -s $((20 * 256 + 100)) disk # up to 2,4, and a part of 2,5
 refuses 1 "DISK ERROR #041: not the image of a diskette, or no such shape (disk, 5220 bytes; tracks 0 to 4 of 8 sectors, as it states, have 10240)" check disk
 refuses 1 "5220 bytes; tracks 0 to 4 of 8 sectors, as it states, have 10240" list disk
-refuses 1 "DISK ERROR #041" get --force disk NORTH.TXT
+refuses 1 "as it states, have 10240)" get --force disk NORTH.TXT
 refuses 2 "not repairable: 041 not the image of a diskette, or no such shape: 5220 bytes" repair disk
 says "flexbox salvage disk FOLDER saves what can be read"
 salvages 1

@@ -17,6 +17,14 @@ mv out page.html
 cmp disk "$demo"
 [ "$(grep -c '<g class="cell' page.html)" = 40 ] || fail "the page has not one cell for each sector"
 ! grep -qi -e '<script' -e 'https\?:' -e 'url(' page.html || fail "the page asks for something from elsewhere"
+for fact in "<dt>File</dt><dd>10240 bytes</dd>" "<dt>flexbox</dt><dd>$("${flexbox[@]}" --version | sed 's/flexbox //; s/,.*//')</dd>" \
+    "There is nothing to repair."; do
+    grep -qF -- "$fact" page.html || fail "not on the page: $fact"
+done
+before=$(date +"%Y-%m-%d %H:%M")
+does report disk
+after=$(date +"%Y-%m-%d %H:%M")
+grep -qF -e "<dt>Looked at</dt><dd>$before</dd>" -e "<dt>Looked at</dt><dd>$after</dd>" out || fail "not looked at now"
 refuses 3 "nowhere" report nowhere
 head -c 1000 disk >short
 refuses 1 "DISK ERROR #016" report short
@@ -65,6 +73,10 @@ patch "$(sector 2 2)" 2 7
 patch $(($(slot 2) + 15)) 2 7
 tells 46 "a sector is in no chain, or in two" "sector 2,7 is held by NORTH.TXT .* and by POWER.TXT" 2-4 2-7
 
+shows "<li>NORTH.TXT: kept whole, 5 sectors; what stands where it shared a sector may be another&#39;s</li>"
+shows "Up to 1 sector of 1 file would be lost."
+shows "<code>flexbox repair disk</code>"
+
 # ---- what has no shape has no page
 fresh
 printf x >>disk
@@ -81,6 +93,22 @@ if command -v chromium >/dev/null; then
     opens 40 "<strong>Damaged</strong>"
     grep -qF 'class="damage"' dom || fail "no damage is marked"
     grep -qF '<h1>&lt;b&gt;disk</h1>' dom || fail "the name of the image is not shown as it is"
+    # ---- on a narrow screen the state of each file is in view, and the page itself does not scroll sideways; on a wide one map and
+    # directory are beside each other. The page has no script: another page looks at it in a frame of that width
+    # measured WIDTH: what the frame says, "state's right end, page's width, top of map, top of directory"
+    measured() {
+        sed "s/<meta http-equiv[^>]*>//" page.html >plain.html
+        printf '%s' '<iframe id=f style="border:0;width:'"$1"'px;height:900px" src=plain.html></iframe><script>onload = () => {
+            const d = f.contentDocument, r = s => d.querySelector(s).getBoundingClientRect();
+            document.title = [r("td.broken").right, d.documentElement.scrollWidth, r(".map").top, r(".files").top].map(Math.round).join(" ") }</script>' >frame.html
+        HOME=$PWD timeout 180 chromium --headless --no-sandbox --disable-gpu --disable-dev-shm-usage --no-first-run --allow-file-access-from-files \
+            --user-data-dir="$PWD/browser" --virtual-time-budget=5000 --dump-dom "file://$PWD/frame.html" 2>console | sed -n 's/.*<title>\([0-9 ]*\)<.*/\1/p'
+    }
+    read -r state width map files < <(measured 500) || fail "Chromium says nothing of a narrow page"
+    [ "$state" -le 500 ] && [ "$width" -le 500 ] && [ "$files" -gt "$map" ] || fail "at 500 px: $state $width $map $files"
+    read -r state width map files < <(measured 1400) || fail "Chromium says nothing of a wide page"
+    [ "$files" = "$map" ] || fail "at 1400 px the directory is not beside the map: $state $width $map $files"
+    checks=$((checks + 2))
 else
     echo "flexbox: no Chromium here (Debian's package chromium): the page was not opened in a browser"
 fi

@@ -1,7 +1,7 @@
 //! What a repair does to a diskette, told before it is done. The proved repair is made on a copy, and the two are compared: nothing here
 //! decides what a file keeps.
 
-use crate::check::{self, Check, Owner, Unreached};
+use crate::check::{Check, Owner, Unreached};
 use crate::commands::dropping::drop_file;
 use flex::{Address, Diskette, Entry, Held, Name, Refusal, Slot, OWNER_DIRECTORY, OWNER_FREE};
 
@@ -28,6 +28,8 @@ pub struct Fate {
     pub kept: usize,
     /// Whether its chain was as the slot states it, whoever else has sectors of it.
     pub is_right: bool,
+    /// Whether it shared a sector.
+    pub is_shared: bool,
     /// Where its chain leads behind what is kept; 0,0 ends it.
     pub next: Address,
     /// Who has that sector then, if it is a data sector.
@@ -52,25 +54,36 @@ pub struct WaysOut {
 }
 
 impl Plan {
-    /// Refused is only what is no image of a diskette.
-    pub fn of(diskette: &mut Diskette) -> Result<Plan, Refusal> {
-        let check = check::check(diskette)?;
-        let mut copy = diskette.clone();
-        let repaired = copy.repair().and_then(|()| Repaired::compared(&check, diskette.image(), copy));
-        Ok(Plan { check, repaired })
+    /// Of a diskette that was checked.
+    pub fn of(check: Check, diskette: &Diskette) -> Plan {
+        let repaired = Repaired::of(&check, diskette);
+        Plan { check, repaired }
     }
 }
 
 impl Repaired {
+    /// What the proved repair makes of a diskette that was checked, or why it refuses.
+    pub fn of(check: &Check, diskette: &Diskette) -> Result<Repaired, Refusal> {
+        let mut copy = diskette.clone();
+        copy.repair()?;
+        Repaired::compared(check, diskette.image(), copy)
+    }
+
     fn compared(check: &Check, image: &[u8], mut diskette: Diskette) -> Result<Repaired, Refusal> {
         let held = diskette.survey()?;
         let after = diskette.slots()?;
         let lost = lost(check);
         let is_free = |number: u16| held.iter().any(|one| one.sector == number && one.owner == OWNER_FREE);
         let found = lost.iter().filter(|&&number| is_free(number)).count();
+        let faults = [check.concerned(45), check.concerned(46)];
         let files = check.slots.iter().zip(&after);
+        let fates = files.filter_map(|(old, new)| fate(check, image, &held, &lost, old, new)).map(|fate| Fate {
+            is_right: !faults[0][fate.slot],
+            is_shared: faults[1][fate.slot],
+            ..fate
+        });
         Ok(Repaired {
-            fates: files.filter_map(|(old, new)| fate(check, image, &held, &lost, old, new)).collect(),
+            fates: fates.collect(),
             free: held.iter().filter(|one| one.owner == OWNER_FREE).count(),
             found,
             diskette,
@@ -109,6 +122,7 @@ fn lost(check: &Check) -> Vec<u16> {
     (0..held.len()).filter(|&number| !held[number]).map(|number| number as u16).collect()
 }
 
+/// All but whether it is right and shared, which is known of all files at once.
 fn fate(check: &Check, image: &[u8], held: &[Held], lost: &[u16], old: &Slot, new: &Slot) -> Option<Fate> {
     let (entry, after) = (old.entry()?, new.entry()?);
     let next = match after.sectors {
@@ -120,7 +134,8 @@ fn fate(check: &Check, image: &[u8], held: &[Held], lost: &[u16], old: &Slot, ne
         slot: old.number,
         entry: entry.clone(),
         kept: after.sectors as usize,
-        is_right: check.of_slot(old.number).all(|finding| finding.number != 45),
+        is_right: false,
+        is_shared: false,
         next,
         holder,
         behind: behind(check, image, lost, next),
@@ -202,6 +217,8 @@ impl Fate {
         anew.is_ok()
     }
 }
+
+pub mod words;
 
 #[cfg(test)]
 mod tests;

@@ -1,5 +1,5 @@
 //! What flexbox needs of the C library and std of Rust 1.63, Debian 12's, does not have: an advisory lock on a file, its owner set, a
-//! rename that replaces nothing, whether a file is a terminal, the local date, and whether standard output was closed from the start. All
+//! rename that replaces nothing, whether a file is a terminal, the local time, and whether standard output was closed from the start. All
 //! unsafe code of the host that is not a call of libflex.a is here. docs/DECISIONS.md says why it is declared here and not taken from a crate.
 
 use std::ffi::CString;
@@ -116,8 +116,18 @@ pub fn output_was_closed() -> bool {
     OUTPUT_WAS_CLOSED.load(Ordering::Relaxed)
 }
 
-/// Today's date where the machine stands, by the variable TZ or the machine's time zone: year, month, day.
-pub fn local_date() -> io::Result<(i32, u8, u8)> {
+/// A moment where the machine stands.
+#[derive(Clone, Copy, Debug, PartialEq, Eq)]
+pub struct LocalTime {
+    pub year: i32,
+    pub month: u8,
+    pub day: u8,
+    pub hour: u8,
+    pub minute: u8,
+}
+
+/// Now, by the variable TZ or the machine's time zone.
+pub fn local_time() -> io::Result<LocalTime> {
     // # Safety
     // A null pointer is allowed: then the time is only given back.
     let now = unsafe { time(ptr::null_mut()) };
@@ -141,7 +151,13 @@ pub fn local_date() -> io::Result<(i32, u8, u8)> {
     if given.is_null() {
         return Err(io::Error::last_os_error());
     }
-    Ok((local.years_from_1900 + 1900, local.month_from_0 as u8 + 1, local.day_of_month as u8))
+    Ok(LocalTime {
+        year: local.years_from_1900 + 1900,
+        month: local.month_from_0 as u8 + 1,
+        day: local.day_of_month as u8,
+        hour: local.hour as u8,
+        minute: local.minute as u8,
+    })
 }
 
 fn answered(answer: c_int) -> io::Result<()> {
@@ -194,7 +210,7 @@ mod tests {
 
     #[test]
     fn the_date_is_one() {
-        let (year, month, day) = local_date().unwrap();
-        assert!(year >= 2024 && (1..=12).contains(&month) && (1..=31).contains(&day));
+        let LocalTime { year, month, day, hour, minute } = local_time().unwrap();
+        assert!(year >= 2024 && (1..=12).contains(&month) && (1..=31).contains(&day) && hour < 24 && minute < 60);
     }
 }

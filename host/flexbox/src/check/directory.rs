@@ -2,7 +2,8 @@
 
 use super::sectors::file;
 use super::Finding;
-use flex::{Address, Shape, Slot};
+use flex::{Address, Name, Shape, Slot};
+use std::collections::HashMap;
 
 /// The directory's sectors as far as its links are right, and what is not right about them.
 pub fn walk(image: &[u8], shape: Shape) -> (Vec<Address>, Vec<Finding>) {
@@ -30,12 +31,13 @@ fn wrong(shape: Shape, before: &[Address], next: Address) -> Option<String> {
     before.contains(&next).then(|| "back to a sector before it".to_string())
 }
 
-/// Files of one name.
+/// Files of one name, each with the first of them.
 pub fn names(slots: &[Slot]) -> Vec<Finding> {
+    let mut first: HashMap<Name, &Slot> = HashMap::new();
     let mut findings = vec![];
-    for (i, slot) in slots.iter().enumerate() {
-        let twin = |earlier: &&Slot| matches!((earlier.entry(), slot.entry()), (Some(a), Some(b)) if a.name == b.name);
-        if let Some(earlier) = slots[..i].iter().find(twin) {
+    for (slot, entry) in slots.iter().filter_map(|slot| Some((slot, slot.entry()?))) {
+        let earlier = *first.entry(entry.name).or_insert(slot);
+        if earlier.number != slot.number {
             let text = format!("{} and slot {} have one name", file(earlier), slot.number);
             findings.push(finding(vec![earlier, slot], text));
         }

@@ -100,6 +100,14 @@ impl Check {
         self.findings.iter().filter(move |finding| finding.slots.contains(&number))
     }
 
+    /// Whether a finding of this rule, or with 0 of any, concerns the file of each slot, by its number.
+    pub fn concerned(&self, rule: u8) -> Vec<bool> {
+        let mut concerned = vec![false; self.slots.len() + 1];
+        let findings = self.findings.iter().filter(|finding| rule == 0 || finding.number == rule);
+        findings.flat_map(|finding| &finding.slots).for_each(|&slot| concerned[slot] = true);
+        concerned
+    }
+
     pub fn free_sectors(&self) -> usize {
         self.sectors_of(Owner::Free)
     }

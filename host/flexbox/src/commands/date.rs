@@ -5,8 +5,14 @@ use std::ops::RangeInclusive;
 
 /// Today, where the machine stands.
 pub fn today() -> Result<[u8; 3], Failure> {
-    let (year, month, day) = posix::local_date().map_err(|error| Failure::File(format!("the date: {}", error)))?;
-    Ok([month, day, year.rem_euclid(100) as u8])
+    let now = posix::local_time().map_err(|error| Failure::File(format!("the date: {}", error)))?;
+    Ok([now.month, now.day, now.year.rem_euclid(100) as u8])
+}
+
+/// "2026-11-15 22:41", where the machine stands.
+pub fn now() -> Result<String, Failure> {
+    let now = posix::local_time().map_err(|error| Failure::File(format!("the time: {}", error)))?;
+    Ok(format!("{}-{:02}-{:02} {:02}:{:02}", now.year, now.month, now.day, now.hour, now.minute))
 }
 
 /// "12-03-81" or "12-3-1981", if the calendar has that day.

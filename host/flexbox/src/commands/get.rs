@@ -1,7 +1,7 @@
 //! `get`: the bytes of files, and whether they can be what was written.
 
 use super::pieces::{pieces, Piece};
-use super::{by_slot, print_all, refused, refused_with, told_name};
+use super::{by_slot, print_all, refused, refused_of, refused_with, told_name};
 use crate::check::{self, Check};
 use crate::failure::{note, Failure};
 use crate::image::{is_same, Image};
@@ -18,7 +18,7 @@ pub fn run(words: &Words) -> Result<(), Failure> {
     let pieces = wanted(words)?;
     let mut image = Image::look(words.image(), words.wait())?;
     let mut diskette = Diskette::new(image.read()?);
-    let check = check::check(&mut diskette).map_err(refused(words.image(), "it can't be checked"))?;
+    let check = check::check(&mut diskette).map_err(refused_of(words, &diskette))?;
     let mut readings = Vec::new();
     let mut all_sound = true;
     for piece in &pieces {

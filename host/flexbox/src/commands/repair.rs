@@ -5,13 +5,14 @@
 use super::check as report;
 use super::dropping::drop_file;
 use super::{full, plural, print, told_name, try_print, typed, wrong_length};
-use crate::check::{self, file, holder, Check, Owner};
+use crate::check::{self, file, Check, Owner};
 use crate::failure::Failure;
 use crate::image::Image;
 use crate::input;
+use crate::plan::words::{outcome, taker};
 use crate::plan::{vanishing, Fate, Plan, Repaired};
 use crate::words::{quoted, text, Words};
-use flex::{Address, Diskette, Refusal};
+use flex::{Diskette, Refusal};
 use std::fmt::Write;
 
 pub fn run(words: &Words) -> Result<(), Failure> {
@@ -28,7 +29,11 @@ pub fn run(words: &Words) -> Result<(), Failure> {
         return nothing_wrong(words);
     }
     let dropped = drop_files(words, &mut diskette)?;
-    let plan = Plan::of(&mut diskette).map_err(|refusal| unrepairable(words, refusal, ""))?;
+    let check = match words.has("--drop") {
+        true => check::check(&mut diskette).map_err(|refusal| unrepairable(words, refusal, ""))?,
+        false => found,
+    };
+    let plan = Plan::of(check, &diskette);
     let repaired = plan.repaired.as_ref().map_err(|&refusal| unrepairable(words, refusal, &reason(&plan, refusal)))?;
     print((dropped + &told(words, &plan, repaired, diskette.image())).as_bytes())?;
     if words.has("--dry-run") {
@@ -114,7 +119,7 @@ fn told(words: &Words, plan: &Plan, repaired: &Repaired, image: &[u8]) -> String
     let mut text = String::from("a repair leaves:\n");
     for fate in &repaired.fates {
         let slot = &plan.check.slots[fate.slot - 1];
-        let _ = writeln!(text, "  {}: {}", file(slot), outcome(plan, fate));
+        let _ = writeln!(text, "  {}: {}", file(slot), outcome(&plan.check, fate));
     }
     let found = match repaired.found {
         0 => String::new(),
@@ -127,49 +132,20 @@ fn told(words: &Words, plan: &Plan, repaired: &Repaired, image: &[u8]) -> String
     if loss.files > 0 {
         let _ = writeln!(text, "  lost: up to {} of {}", plural(loss.sectors, "sector"), plural(loss.files, "file"));
     }
-    for fate in repaired.wronged() {
+    let told = if plan.check.slots.len() > MANY_SLOTS { 1 } else { NAMED };
+    for fate in repaired.wronged().take(told) {
         text.push_str(&wronged(words, plan, fate, image));
+    }
+    let more = repaired.wronged().count().saturating_sub(told);
+    if more > 0 {
+        let _ = writeln!(text, "and {} more rightly chained files would be cut", more);
     }
     text
 }
 
-fn outcome(plan: &Plan, fate: &Fate) -> String {
-    let size = plural(fate.kept, "sector");
-    match fate.is_cut() {
-        true => format!("cut from {} to {}: {}", fate.stated(), size, why_cut(plan, fate)),
-        false if fate.is_right => format!("kept whole, {}{}", size, doubt(plan, fate)),
-        false if fate.kept == 0 => "kept as it is stated, no sector".to_string(),
-        false if fate.next != Address::NONE => {
-            format!("kept as it is stated, {}; behind them its chain led on to {}", size, fate.next)
-        }
-        false => format!("kept as it is stated, {}; another end was stated, {}", size, fate.entry.end),
-    }
-}
-
-/// The repair gives a shared sector to one of its files, and does not know whose bytes stand in it.
-fn doubt(plan: &Plan, fate: &Fate) -> &'static str {
-    match plan.check.of_slot(fate.slot).any(|finding| finding.number == 46) {
-        true => "; what stands where it shared a sector may be another's",
-        false => "",
-    }
-}
-
-fn why_cut(plan: &Plan, fate: &Fate) -> String {
-    let leads = match fate.kept {
-        0 => format!("its start is {}", fate.next),
-        _ => format!("it leads on to {}", fate.next),
-    };
-    match fate.holder {
-        None if fate.next == Address::NONE && fate.kept > 0 => "it ends there".to_string(),
-        None => format!("{}, which is no data sector", leads),
-        Some(Owner::File(slot)) if slot == fate.slot => format!("it leads back to {}", fate.next),
-        Some(owner) => format!("{}, which {} has", leads, holder(owner, &plan.check.slots)),
-    }
-}
-
 /// A sound file that would be cut: for whom, and what one can do about it before.
 fn wronged(words: &Words, plan: &Plan, fate: &Fate, image: &[u8]) -> String {
-    let (name, other) = (fate.entry.name, taker(plan, fate));
+    let (name, other) = (fate.entry.name, taker(&plan.check, fate));
     let is_damaged =
         matches!(fate.holder, Some(Owner::File(slot)) if plan.check.of_slot(slot).any(|one| one.number == 45));
     let which = if is_damaged { "which is damaged and comes before it" } else { "which comes before it" };
@@ -193,11 +169,6 @@ fn wronged(words: &Words, plan: &Plan, fate: &Fate, image: &[u8]) -> String {
     text
 }
 
-/// Who has what the file would lose.
-fn taker(plan: &Plan, fate: &Fate) -> String {
-    fate.holder.map_or(String::new(), |owner| holder(owner, &plan.check.slots))
-}
-
 /// Where a file would lose something, somebody has to say that it may.
 fn agree(words: &Words, plan: &Plan, repaired: &Repaired) -> Result<(), Failure> {
     if words.has("--yes") || repaired.loss(&plan.check).files == 0 {
@@ -214,8 +185,10 @@ fn agree(words: &Words, plan: &Plan, repaired: &Repaired) -> Result<(), Failure>
     }
 }
 
-/// How many files the question names before the rest is only counted.
+/// How many files the question names, and how many sound ones get their ways out told, before the rest is only counted.
 const NAMED: usize = 8;
+/// With more slots than this to try a way out takes a second or so: then it is told for one file.
+const MANY_SLOTS: usize = 2_000;
 
 /// What is lost, counted, and by whom: what was printed of it may have gone to a file, where the one who is asked does not see it.
 fn would_be_lost(plan: &Plan, repaired: &Repaired) -> String {
@@ -238,7 +211,7 @@ fn losing(plan: &Plan, fate: &Fate) -> String {
     match fate.is_cut() {
         false => format!("{} ({} behind its stated size)", name, plural(fate.behind, "sector")),
         true if fate.is_right => {
-            format!("{} ({} to {}, for {})", name, fate.stated(), plural(fate.kept, "sector"), taker(plan, fate))
+            format!("{} ({} to {}, for {})", name, fate.stated(), plural(fate.kept, "sector"), taker(&plan.check, fate))
         }
         true => format!("{} ({} to {})", name, fate.stated(), plural(fate.kept, "sector")),
     }

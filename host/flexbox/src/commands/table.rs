@@ -203,7 +203,8 @@ pub const COMMANDS: &[Command] = &[
         usage: "IMAGE > PAGE.html",
         summary: "make a page to look at",
         details: "Writes one HTML page to standard output, with all that it needs: the diskette as rows of sectors coloured by who\n\
-                  holds them, damaged places marked, the directory as a table, and what the census says in words.\n",
+                  holds them, damaged places marked, the directory as a table, what the census says in words, what a repair would\n\
+                  do, and what to type next. Of more than 2,000 files as many are listed, the damaged ones first.\n",
         operands: (1, 1),
         options: &[],
         run: report::run,

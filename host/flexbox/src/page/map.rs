@@ -12,6 +12,9 @@ const GAP: usize = 3;
 /// Left of the rows and above them, for the numbers.
 const MARGIN: usize = 34;
 
+/// How many holders and findings of a sector are told before the rest is only counted.
+const TOLD: usize = 8;
+
 /// What is known of one sector.
 struct Cell<'a> {
     address: Address,
@@ -27,7 +30,7 @@ struct Cell<'a> {
 pub fn map(check: &Check, signs: &Signs, image: &[u8]) -> String {
     let (tracks, per) = (check.shape.last as usize + 1, check.shape.per as usize);
     let (width, height) = (MARGIN + per * (WIDTH + GAP), MARGIN + tracks * (HEIGHT + GAP));
-    let mut text = String::from("<section>\n<h2>Sectors</h2>\n");
+    let mut text = String::from("<section class=\"map\">\n<h2>Sectors</h2>\n");
     text.push_str(LEGEND);
     let _ = writeln!(
         text,
@@ -101,7 +104,7 @@ fn system(check: &Check, address: Address) -> &'static str {
 fn drawn(cell: &Cell, check: &Check, signs: &Signs) -> String {
     let Address { track, sector } = cell.address;
     let (x, y) = (MARGIN + (sector as usize - 1) * (WIDTH + GAP), MARGIN + track as usize * (HEIGHT + GAP));
-    let mut text = format!("<g class=\"cell{}\" id=\"c-{}-{}\"><title>", classes(cell), track, sector);
+    let mut text = format!("<g class=\"cell{}\" id=\"c-{}-{}\"><title>", classes(cell, signs), track, sector);
     text.push_str(&escaped(&told(cell, check)));
     let (letter, colour) = face(cell, signs);
     let place = format!("x=\"{}\" y=\"{}\" width=\"{}\" height=\"{}\" rx=\"4\"", x, y, WIDTH, HEIGHT);
@@ -120,8 +123,11 @@ fn drawn(cell: &Cell, check: &Check, signs: &Signs) -> String {
     text
 }
 
-/// The classes by which the directory's lines find their sectors.
-fn classes(cell: &Cell) -> String {
+/// The classes by which the directory's lines find their sectors; of very many files it is only said that there is one.
+fn classes(cell: &Cell, signs: &Signs) -> String {
+    if !signs.are_few() && cell.holders.iter().any(|(owner, ..)| matches!(owner, Owner::File(_))) {
+        return " slots".to_string();
+    }
     let mut text = String::new();
     for (owner, ..) in &cell.holders {
         match owner {
@@ -159,7 +165,7 @@ fn face(cell: &Cell, signs: &Signs) -> (String, String) {
 fn told(cell: &Cell, check: &Check) -> String {
     let mut lines = vec![format!("sector {}", cell.address)];
     lines.extend(cell.system.map(str::to_string));
-    for &(owner, i, of) in &cell.holders {
+    for &(owner, i, of) in cell.holders.iter().take(TOLD) {
         let name = match owner {
             Owner::Free => "free chain".to_string(),
             Owner::Directory => "taken by the directory".to_string(),
@@ -169,6 +175,9 @@ fn told(cell: &Cell, check: &Check) -> String {
         };
         lines.push(format!("{}, sector {} of {}", name, i, of));
     }
+    if cell.holders.len() > TOLD {
+        lines.push(format!("and {} more files", cell.holders.len() - TOLD));
+    }
     if cell.system.is_none() && cell.holders.is_empty() {
         let why = if check.has_slots() { "in no chain" } else { "not free; its file is not known" };
         lines.push(why.to_string());
@@ -176,6 +185,9 @@ fn told(cell: &Cell, check: &Check) -> String {
     if cell.system.map_or(true, |system| system == "directory") {
         lines.push(format!("links to {}", cell.link));
     }
-    lines.extend(cell.damage.iter().map(|text| format!("damaged: {}", text)));
+    lines.extend(cell.damage.iter().take(TOLD).map(|text| format!("damaged: {}", text)));
+    if cell.damage.len() > TOLD {
+        lines.push(format!("and {} more findings", cell.damage.len() - TOLD));
+    }
     lines.join("\n")
 }

@@ -25,10 +25,16 @@ fn made_of(files: &[(&str, usize)], name: &str, stores: &[(usize, &[u8])]) -> St
     for (at, bytes) in stores {
         image[*at..at + bytes.len()].copy_from_slice(bytes);
     }
+    page_of(name, image)
+}
+
+fn page_of(name: &str, image: Vec<u8>) -> String {
     let mut diskette = Diskette::new(image);
     let record = Record::read(&mut diskette).unwrap();
     let check = check::check(&mut diskette).unwrap();
-    page(name, &record, &check, diskette.image())
+    let repaired = check.verdict.err().map(|_| Repaired::of(&check, &diskette));
+    let (image, time) = (diskette.image(), "2026-11-15 22:41");
+    page(&Subject { name, record: &record, check: &check, repaired: repaired.as_ref(), image, time })
 }
 
 fn count(page: &str, what: &str) -> usize {
@@ -70,10 +76,10 @@ fn said(page: &str) -> Vec<String> {
     items.map(str::to_string).collect()
 }
 
-/// The states in the directory's lines, which are the last cell of each.
+/// The states in the directory's lines, which are the fourth cell of each: in view on a narrow screen, too.
 fn states(page: &str) -> Vec<&str> {
     let rows = between(page, "<tr class=\"row", "</tr>").into_iter();
-    rows.map(|row| between(row.rsplit("<td").next().unwrap(), ">", "<")[0]).collect()
+    rows.map(|row| between(row.split("<td").nth(4).unwrap(), ">", "<")[0]).collect()
 }
 
 /// The page of a damaged diskette: its verdict in words, and a cell for each sector all the same.
@@ -204,6 +210,69 @@ fn sectors_that_the_directory_has_taken_are_a_kind_of_their_own() {
     };
     assert_eq!(with("="), ["0-5", "0-6", "1-6"]);
     assert_eq!(with("D"), ["1-5"]);
+}
+
+#[test]
+fn time_version_and_length_are_told() {
+    let page = made("disk", &[]);
+    for fact in ["<dt>Looked at</dt><dd>2026-11-15 22:41</dd>", "<dt>File</dt><dd>4608 bytes</dd>"] {
+        assert!(page.contains(fact), "{}", fact);
+    }
+    assert!(page.contains(&format!("<dt>flexbox</dt><dd>{}</dd>", env!("CARGO_PKG_VERSION"))));
+}
+
+/// What stands in the section on repair, without its heading.
+fn repair(page: &str) -> &str {
+    between(page, "<h2>Repair</h2>\n", "</section>")[0]
+}
+
+#[test]
+fn what_a_repair_would_do_and_the_next_command_are_told() {
+    assert_eq!(repair(&made("disk", &[])), "<p>There is nothing to repair.</p>\n");
+    let cut = made("my <disk>", &[(offset(6, 1, 1), &[0, 0])]);
+    let cut = repair(&cut);
+    assert!(cut.starts_with("<p>A repair leaves 1 of 2 files as they are, and 8 sectors free."), "{}", cut);
+    assert!(cut.contains("<strong class=\"broken\">Up to 1 sector of 1 file would be lost.</strong>"), "{}", cut);
+    assert!(cut.contains("<li>A.TXT: cut from 2 to 1 sector: it ends there</li>"), "{}", cut);
+    assert!(cut.contains("Then repair: <code>flexbox repair &#39;my &lt;disk&gt;&#39;</code>"), "{}", cut);
+    let lost = made("disk", &[(1024, &[0, 9])]);
+    assert!(repair(&lost).starts_with("<p>It can't be repaired: 042 directory not right.</p>"), "{}", repair(&lost));
+    assert!(repair(&lost).ends_with("<code>flexbox salvage disk FOLDER</code></p>\n"), "{}", repair(&lost));
+    let twins = made("disk", &[(SLOT_B, b"A")]);
+    assert!(repair(&twins).contains("<code>flexbox rename --force disk A.TXT NEW.EXT</code>"), "{}", repair(&twins));
+}
+
+#[test]
+fn files_that_the_directory_does_not_reach_are_on_the_page() {
+    let slot = made("disk", &[(offset(6, 0, 6) + 16, b"LOST\0\0\0\0TXT\0\0\x01\x03\x01\x05\0\x03"), (1024, &[0, 0])]);
+    assert!(slot.contains("Not reached by the directory: LOST.TXT (at 0,6 byte 16), 3 sectors from 1,3 to 1,5"));
+}
+
+/// A file's start, end and size, by its number.
+type File = fn(usize) -> ([u8; 2], [u8; 2], u16);
+
+/// The largest directory that there is, and the one in which the most files share a sector, or all of many sectors.
+#[test]
+fn a_page_of_very_many_files_is_no_longer_than_can_be_read() {
+    let none = |_| ([0, 0], [0, 0], 0);
+    let shared = |_| ([41, 1], [41, 1], 1);
+    let long = |_| ([41, 1], [79, 36], 1404);
+    let kinds: [(usize, File); 3] = [(2844, none), (1440, shared), (1440, long)];
+    let mut images = kinds.map(|(taken, file)| diskettes::crowded(79, 36, taken, file));
+    // In the last one all files go the same way to the end.
+    let shape = flex::Shape { last: 79, per: 36 };
+    for number in 1440..2843 {
+        let (at, next) = (shape.offset(shape.address(number)), shape.address(number + 1));
+        images[2][at..at + 2].copy_from_slice(&[next.track, next.sector]);
+    }
+    for (image, files) in images.into_iter().zip([28_760, 14_720, 14_720]) {
+        let page = page_of("disk", image);
+        assert!(page.len() < 3_000_000, "{} bytes", page.len());
+        assert!(page.contains(&format!("<dt>Files</dt><dd>{}</dd>", files)), "{}", files);
+        assert_eq!(count(&page, "<g class=\"cell"), 80 * 36);
+        assert_eq!(states(&page).len(), 2_000);
+        assert!(page.contains(&format!("And {} more files", files - 2_000)));
+    }
 }
 
 #[test]

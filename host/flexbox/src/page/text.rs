@@ -1,8 +1,7 @@
 //! The words of the page: heading, facts, what the census says, and the directory.
 
-use super::{escaped, Signs};
+use super::{escaped, Signs, Subject};
 use crate::check::{Check, Owner};
-use crate::commands::info::Record;
 use crate::commands::list::protections;
 use crate::commands::plural;
 use flex::{Entry, Slot};
@@ -38,7 +37,8 @@ pub fn heading(name: &str, check: &Check) -> String {
     )
 }
 
-pub fn facts(record: &Record, check: &Check) -> String {
+pub fn facts(subject: &Subject) -> String {
+    let (record, check) = (subject.record, subject.check);
     let shape = check.shape;
     let all = shape.data_sectors();
     let free = check.free_sectors();
@@ -50,6 +50,9 @@ pub fn facts(record: &Record, check: &Check) -> String {
         ("Made", record.made()),
         ("Files", check.files().map_or("not known".to_string(), |files| files.to_string())),
         ("Free", format!("{} of {} sectors", free, all)),
+        ("File", format!("{} bytes", subject.image.len())),
+        ("Looked at", subject.time.to_string()),
+        ("flexbox", env!("CARGO_PKG_VERSION").to_string()),
     ];
     let mut text = String::from("<dl>\n");
     for (name, value) in facts {
@@ -75,16 +78,27 @@ pub fn findings(check: &Check) -> String {
         let _ = write!(text, "<li class=\"{}\"><b>{}</b> {} <small>{}</small>", class, mark, rule, number);
         if !broken.is_empty() {
             text.push_str("<ul>");
-            for finding in broken {
+            for finding in broken.iter().take(TOLD) {
                 let _ = write!(text, "<li>{}</li>", linked(finding));
+            }
+            if broken.len() > TOLD {
+                let _ = write!(text, "<li>and {} more</li>", broken.len() - TOLD);
             }
             text.push_str("</ul>");
         }
         text.push_str("</li>\n");
     }
-    text.push_str("</ul>\n</section>\n");
+    text.push_str("</ul>\n");
+    for file in check.unreached.iter().take(TOLD) {
+        let _ = writeln!(text, "<p class=\"broken\">Not reached by the directory: {}</p>", escaped(&file.to_string()));
+    }
+    text.push_str("</section>\n");
     text
 }
+
+/// How many findings of a rule are told before the rest is only counted, and how many files are listed.
+const TOLD: usize = 200;
+const LISTED: usize = 2_000;
 
 /// The text of a finding, leading to its first sector.
 fn linked(finding: &crate::check::Finding) -> String {
@@ -95,42 +109,59 @@ fn linked(finding: &crate::check::Finding) -> String {
 }
 
 pub fn directory(check: &Check, signs: &Signs) -> String {
-    let mut text = String::from("<section>\n<h2>Directory</h2>\n");
-    let live: Vec<(&Slot, &Entry)> =
-        check.slots.iter().filter_map(|slot| slot.entry().map(|entry| (slot, entry))).collect();
-    if live.is_empty() {
+    let mut text = String::from("<section class=\"files\">\n<h2>Directory</h2>\n");
+    let (listed, count) = listed(check);
+    if listed.is_empty() {
         let why = if check.has_slots() { "There is no file." } else { "It can't be listed." };
         let _ = writeln!(text, "<p>{}</p>\n</section>", why);
         return text;
     }
     text.push_str(
-        "<div class=\"scroll\"><table>\n<thead><tr><th></th><th>Slot</th><th>Name</th><th>Sectors</th><th>From</th><th>To</th>\
-         <th>Date</th><th>Protected</th><th>State</th></tr></thead>\n<tbody>\n",
+        "<div class=\"scroll\"><table>\n<thead><tr><th></th><th>Slot</th><th>Name</th><th>State</th><th>Sectors</th><th>From</th>\
+         <th>To</th><th>Date</th><th>Protected</th></tr></thead>\n<tbody>\n",
     );
-    for (slot, entry) in live {
-        text.push_str(&line(check, signs, slot, entry));
+    for (slot, entry, is_damaged) in &listed {
+        text.push_str(&line(signs, slot, entry, *is_damaged));
     }
-    let _ =
-        writeln!(text, "</tbody>\n</table></div>\n<p>{} in all.</p>\n</section>", plural(check.slots.len(), "slot"));
+    text.push_str("</tbody>\n</table></div>\n");
+    if count > listed.len() {
+        let more = count - listed.len();
+        let _ =
+            writeln!(text, "<p>And {} more files, which are sound or as damaged: flexbox list shows all.</p>", more);
+    }
+    let _ = writeln!(text, "<p>{} in all.</p>\n</section>", plural(check.slots.len(), "slot"));
     text
 }
 
-fn line(check: &Check, signs: &Signs, slot: &Slot, entry: &Entry) -> String {
+/// The live files, with whether they are damaged, and how many there are. Of very many the damaged ones come first, and then they are
+/// put in the order of their slots.
+fn listed(check: &Check) -> (Vec<(&Slot, &Entry, bool)>, usize) {
+    let damaged = check.concerned(0);
+    let live = check.slots.iter().filter_map(|slot| Some((slot, slot.entry()?, damaged[slot.number])));
+    let mut live: Vec<(&Slot, &Entry, bool)> = live.collect();
+    let count = live.len();
+    if count > LISTED {
+        live.sort_by_key(|row| !row.2);
+        live.truncate(LISTED);
+        live.sort_by_key(|row| row.0.number);
+    }
+    (live, count)
+}
+
+fn line(signs: &Signs, slot: &Slot, entry: &Entry, is_damaged: bool) -> String {
     let owner = Owner::File(slot.number);
     let [month, day, year] = entry.date;
     let protected: Vec<&str> = protections(entry).iter().map(|row| row.1).collect();
-    let state = match check.of_slot(slot.number).count() {
-        0 => "<td>sound</td>".to_string(),
-        _ => "<td class=\"broken\">damaged</td>".to_string(),
-    };
+    let state = if is_damaged { "<td class=\"broken\">damaged</td>" } else { "<td>sound</td>" };
     format!(
         "<tr class=\"row{}\"><td><span class=\"key\" style=\"background:{}\">{}</span></td><td>{}</td><td class=\"name\">{}</td>\
-         <td>{}</td><td>{}</td><td>{}</td><td>{:02}-{:02}-{:02}</td><td>{}</td>{}</tr>\n",
+         {}<td>{}</td><td>{}</td><td>{}</td><td>{:02}-{:02}-{:02}</td><td>{}</td></tr>\n",
         slot.number,
         signs.colour(owner),
         escaped(signs.letter(owner)),
         slot.number,
         escaped(&entry.name.to_string()),
+        state,
         entry.sectors,
         entry.start,
         entry.end,
@@ -138,6 +169,5 @@ fn line(check: &Check, signs: &Signs, slot: &Slot, entry: &Entry) -> String {
         day,
         year,
         protected.join(", "),
-        state
     )
 }

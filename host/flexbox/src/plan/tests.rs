@@ -12,6 +12,11 @@ fn in_use() -> Vec<u8> {
     diskette.into_buffers().0
 }
 
+fn planned(image: Vec<u8>) -> Plan {
+    let mut diskette = Diskette::new(image);
+    Plan::of(crate::check::check(&mut diskette).unwrap(), &diskette)
+}
+
 fn slot(number: usize) -> usize {
     1024 + 16 + 24 * (number - 1)
 }
@@ -21,7 +26,7 @@ fn plan(stores: &[(usize, &[u8])]) -> (Plan, Vec<u8>) {
     for (at, bytes) in stores {
         image[*at..at + bytes.len()].copy_from_slice(bytes);
     }
-    (Plan::of(&mut Diskette::new(image.clone())).unwrap(), image)
+    (planned(image.clone()), image)
 }
 
 /// What each file keeps of what it states, and where its chain leads on.
@@ -133,7 +138,7 @@ fn what_is_told_is_what_the_repair_does() {
             };
             image[at..at + 2].copy_from_slice(&address);
         }
-        let plan = Plan::of(&mut Diskette::new(image.clone())).unwrap();
+        let plan = planned(image.clone());
         let repaired = plan.repaired.unwrap();
         let held = repaired.diskette.survey().unwrap();
         assert_eq!(repaired.fates.len(), 3);
