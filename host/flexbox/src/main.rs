@@ -1,6 +1,7 @@
 //! flexbox: makes FLEX diskette images and lists, reads, checks and changes their files, by the proved service.
 //!
-//! All of it goes through the seven entries of libflex.a, and whether a diskette is sound its census alone decides. `main`
+//! Whatever changes a diskette goes through the seven entries of libflex.a, and whether one is sound its census alone decides. Where the
+//! service shows nothing, `raw` reads an image's bytes by themselves: for `salvage`, and to look for what a diskette has lost. `main`
 //! finds the command and gives its exit status: 0 done; 1 refused by the service, or damaged, by now repaired too; 2 wrong usage,
 //! or not repaired; 3 a file of this machine can't be read or may not be written; 4 another program has the image locked.
 

@@ -248,7 +248,7 @@ under a lock. A refusal leaves IMAGE as it was.
 
 Exit status: 0 done; 1 refused by the diskette service, or damaged; 2 wrong usage; 3 a file of this machine can't be
 read or may not be written; 4 another program has IMAGE locked. Of repair: 0 nothing was wrong; 1 repaired; 2 not
-repaired.
+repaired. Of diff: 1 something differs. Of salvage: 1 something is not whole.
 ";
 
 /// What `help` shows.
