@@ -169,6 +169,11 @@ does info disk
 shows "beyond   in sectors of track 0 that the directory does not reach: LOG11.TXT, LOG12.TXT"
 does info --json disk
 shows '"unreached":["LOG11.TXT","LOG12.TXT"]'
+ends 1 "" check sound disk
+shows "disk: DAMAGED, 1 finding: DISK ERROR #046: a sector is in no chain, or in two; not reached by the directory: LOG11.TXT, LOG12.TXT"
+[ "$(grep -c 'not reached' out)" = 1 ] && [ "$(wc -l <out)" = 2 ] || fail "not a line each: $(cat out)"
+does info sound disk
+shows "census 046 a sector is in no chain, or in two; not reached by the directory: LOG11.TXT, LOG12.TXT"
 lost="2 files would lose up to 2 sectors: LOG11.TXT (not reached by the directory, 1 sector in no chain), LOG12.TXT (not"
 ends 2 "not changed, since $lost" repair disk </dev/null
 shows "not reached by the directory: LOG11.TXT"

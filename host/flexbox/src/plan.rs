@@ -3,6 +3,7 @@
 
 use crate::check::{Check, Owner, Unreached};
 use crate::commands::dropping::drop_file;
+use crate::raw;
 use flex::{Address, Diskette, Entry, Held, Name, Refusal, Slot, OWNER_DIRECTORY, OWNER_FREE};
 
 /// What is wrong, and what comes out.
@@ -69,9 +70,15 @@ impl Repaired {
         Repaired::compared(check, diskette.image(), copy)
     }
 
-    fn compared(check: &Check, image: &[u8], mut diskette: Diskette) -> Result<Repaired, Refusal> {
+    /// The slots are where they were, so they are read there: asked for one by one, many take long.
+    fn compared(check: &Check, image: &[u8], diskette: Diskette) -> Result<Repaired, Refusal> {
         let held = diskette.survey()?;
-        let after = diskette.slots()?;
+        let state = |slot: &Slot| raw::state(&raw::slot(diskette.image(), check.shape, slot.place));
+        let after: Vec<Slot> = check
+            .slots
+            .iter()
+            .map(|slot| Slot { number: slot.number, place: slot.place, state: state(slot) })
+            .collect();
         let lost = lost(check);
         let is_free = |number: u16| held.iter().any(|one| one.sector == number && one.owner == OWNER_FREE);
         let found = lost.iter().filter(|&&number| is_free(number)).count();

@@ -126,6 +126,11 @@ impl Check {
         !self.slots.is_empty()
     }
 
+    /// The names of the files that the directory does not reach.
+    pub fn unreached_names(&self) -> Vec<String> {
+        self.unreached.iter().map(|file| file.entry.name.to_string()).collect()
+    }
+
     /// How many files there are, if that is known.
     pub fn files(&self) -> Option<usize> {
         self.has_slots().then(|| self.slots.iter().filter(|slot| slot.entry().is_some()).count())

@@ -1,6 +1,6 @@
 //! `check`: what is damaged and where, in passes as fsck has them.
 
-use super::{look, on_each, plural, print, print_json, refused_of};
+use super::{look, not_reached, on_each, plural, print, print_json, refused_of};
 use crate::check::{check, Check, Unreached};
 use crate::failure::Failure;
 use crate::json;
@@ -23,8 +23,13 @@ const PASSES: [(u8, &str); 5] = [
 pub fn run(words: &Words) -> Result<(), Failure> {
     match words.others() {
         [] => one(words, as_text),
-        _ => on_each(words, |words| one(words, |words, check, _| last_line(words, check))),
+        _ => on_each(words, |words| one(words, line)),
     }
+}
+
+/// The last line of a report is all that is told of one of several images, with the files that the directory has lost.
+fn line(words: &Words, check: &Check, _: &[String]) -> String {
+    format!("{}{}\n", last_line(words, check).trim_end(), not_reached(check))
 }
 
 fn one(words: &Words, as_text: impl Fn(&Words, &Check, &[String]) -> String) -> Result<(), Failure> {

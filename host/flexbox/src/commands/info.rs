@@ -1,6 +1,6 @@
 //! `info`: the shape of a diskette, its label and date, and how much is free.
 
-use super::{look, on_each, plural, print, print_json, refused_of};
+use super::{look, not_reached, on_each, plural, print, print_json, refused_of};
 use crate::check::{check, Check};
 use crate::failure::Failure;
 use crate::json;
@@ -78,7 +78,7 @@ fn one(words: &Words, as_text: impl Fn(&Words, &Record, &Check) -> String) -> Re
 fn line(words: &Words, record: &Record, check: &Check) -> String {
     let files = check.files().map_or("files not known".to_string(), |files| plural(files, "file"));
     format!(
-        "{}: tracks 0 to {} of {} sectors, label {}, volume {}, made {}, {}, {} free, census {}\n",
+        "{}: tracks 0 to {} of {} sectors, label {}, volume {}, made {}, {}, {} free, census {}{}\n",
         words.image().display(),
         check.shape.last,
         check.shape.per,
@@ -87,7 +87,8 @@ fn line(words: &Words, record: &Record, check: &Check) -> String {
         record.made(),
         files,
         plural(record.free.into(), "sector"),
-        census(check)
+        census(check),
+        not_reached(check)
     )
 }
 
@@ -131,14 +132,10 @@ fn as_text(words: &Words, record: &Record, check: &Check) -> String {
 
 /// A line that is there only where there is something to tell.
 fn unreached(check: &Check) -> String {
-    match names(check).as_slice() {
+    match check.unreached_names().as_slice() {
         [] => String::new(),
         names => format!("beyond   in sectors of track 0 that the directory does not reach: {}\n", names.join(", ")),
     }
-}
-
-fn names(check: &Check) -> Vec<String> {
-    check.unreached.iter().map(|file| file.entry.name.to_string()).collect()
 }
 
 pub fn as_json(words: &Words, record: &Record, check: &Check) -> String {
@@ -157,6 +154,6 @@ pub fn as_json(words: &Words, record: &Record, check: &Check) -> String {
         .with("files", json::number(check.files()))
         .with("slots", json::number(check.files().map(|_| check.slots.len())))
         .with("census", check.verdict.map_or_else(Refusal::number, |()| 0))
-        .with("unreached", json::list(names(check).iter().map(|name| json::text(name))))
+        .with("unreached", json::list(check.unreached_names().iter().map(|name| json::text(name))))
         .end()
 }

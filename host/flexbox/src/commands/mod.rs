@@ -26,6 +26,7 @@ mod undelete;
 
 pub use table::{find, overview};
 
+use crate::check::Check;
 use crate::failure::Failure;
 use crate::image::Image;
 use crate::raw;
@@ -51,6 +52,14 @@ fn on_each(words: &Words, one: impl Fn(&Words) -> Result<(), Failure>) -> Result
     match worst {
         0 => Ok(()),
         worst => Err(Failure::Several(worst)),
+    }
+}
+
+/// The end of a line on an image, where its directory has lost files.
+fn not_reached(check: &Check) -> String {
+    match check.unreached_names().as_slice() {
+        [] => String::new(),
+        names => format!("; not reached by the directory: {}", names.join(", ")),
     }
 }
 

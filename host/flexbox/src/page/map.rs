@@ -13,7 +13,7 @@ const GAP: usize = 3;
 const MARGIN: usize = 34;
 
 /// How many holders and findings of a sector are told before the rest is only counted.
-const TOLD: usize = 8;
+const TOLD: usize = 4;
 
 /// What is known of one sector.
 struct Cell<'a> {

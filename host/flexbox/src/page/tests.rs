@@ -265,7 +265,13 @@ fn a_page_of_very_many_files_is_no_longer_than_can_be_read() {
         let (at, next) = (shape.offset(shape.address(number)), shape.address(number + 1));
         images[2][at..at + 2].copy_from_slice(&[next.track, next.sector]);
     }
-    for (image, files) in images.into_iter().zip([28_760, 14_720, 14_720]) {
+    // And one where all files of the largest have one name.
+    let mut twins = images[0].clone();
+    for sector in (4..80 * 36).map(|sector| sector * 256) {
+        (0..10).for_each(|slot| twins[sector + 16 + 24 * slot..][..11].copy_from_slice(b"SAMENAMETXT"));
+    }
+    let images = images.into_iter().chain([twins]);
+    for (image, files) in images.zip([28_760, 14_720, 14_720, 28_760]) {
         let page = page_of("disk", image);
         assert!(page.len() < 3_000_000, "{} bytes", page.len());
         assert!(page.contains(&format!("<dt>Files</dt><dd>{}</dd>", files)), "{}", files);
