@@ -76,7 +76,7 @@ does delete disk NORTH.TXT
 does delete disk SOUTH.TXT
 patch 546 1
 status=0
-"${flexbox[@]}" repair disk >out || status=$?
+"${flexbox[@]}" repair --yes disk >out || status=$?
 checks=$((checks + 1))
 [ "$status" = 1 ] || fail "status $status after a repair"
 refuses 1 "its sector 2 of 5, at 1,4, has the record number" undelete disk NORTH.TXT

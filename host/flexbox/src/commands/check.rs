@@ -68,7 +68,7 @@ fn as_text(words: &Words, check: &Check, left: &[String]) -> String {
             text.push_str("  the slots can't be listed: names, files and their sectors are not checked\n");
         }
     }
-    text.push_str(&unreached(check));
+    text.push_str(&(unreached(check) + &gone(check)));
     for name in left {
         let _ = writeln!(text, "  left by a flexbox that is gone: {}; the next change of the image removes it", name);
     }
@@ -80,6 +80,12 @@ fn as_text(words: &Words, check: &Check, left: &[String]) -> String {
 pub fn unreached(check: &Check) -> String {
     let line = |file: &Unreached| format!("  not reached by the directory: {}\n", file);
     check.unreached.iter().map(line).collect()
+}
+
+/// The slots without a file that lead to sectors in no chain, a line each.
+pub fn gone(check: &Check) -> String {
+    let line = |file: &Unreached| format!("  of a deleted or damaged slot: {}\n", file);
+    check.gone.iter().map(line).collect()
 }
 
 pub fn last_line(words: &Words, check: &Check) -> String {

@@ -3,7 +3,7 @@
 use super::{escaped, Subject};
 use crate::check::Check;
 use crate::commands::plural;
-use crate::plan::words::outcome;
+use crate::plan::words::{lost, outcome};
 use crate::plan::Repaired;
 use crate::words::quoted;
 use flex::Refusal;
@@ -33,10 +33,8 @@ fn outcomes(check: &Check, repaired: &Repaired) -> String {
     let whole = repaired.fates.len() - changed.len();
     let mut text = format!("<p>A repair leaves {} of {} as they are", whole, plural(repaired.fates.len(), "file"));
     let _ = write!(text, ", and {} free.", plural(repaired.free, "sector"));
-    let loss = repaired.loss(check);
-    if loss.files > 0 {
-        let (sectors, files) = (plural(loss.sectors, "sector"), plural(loss.files, "file"));
-        let _ = write!(text, " <strong class=\"broken\">Up to {} of {} would be lost.</strong>", sectors, files);
+    if let Some(lost) = lost(&repaired.loss(check)) {
+        let _ = write!(text, " <strong class=\"broken\">Would be lost: {}.</strong>", lost);
     }
     text.push_str("</p>\n<ul>\n");
     for fate in changed.iter().take(TOLD) {
