@@ -64,6 +64,21 @@ does undelete --slot 2 disk B.TXT
 does undelete disk A.TXT
 does check disk
 
+# ---- a sector that two deleted files had: X.TXT took that of B.TXT and the slot of A.TXT
+rm -f disk
+does format --tracks 2 --sectors 5 disk
+for name in A B; do does put disk $name.TXT <<<$name$name$name$name; done
+head -c 700 /dev/zero | tr '\0' x >rest
+does put disk C.TXT=rest
+does delete disk B.TXT
+does delete disk A.TXT
+does put disk X.TXT <<<XXXX
+does delete disk X.TXT
+does undelete disk
+hides "can be brought back"
+shows "   1  ?.TXT         can't be brought back: the deleted file of slot 2 had its sector 1,2, too"
+refuses 1 "B.TXT: not brought back: the deleted file of slot 1 had its sector 1,2, too" undelete --slot 2 disk B.TXT
+
 # ---- what is not free any more, or not in order
 fresh
 does delete disk NORTH.TXT

@@ -216,6 +216,7 @@ does get disk NORTH.TXT
 cmp out south
 accident
 ends 2 "flexbox: disk: not changed, since NONE.TXT can't be dropped: 004 name not found" repair --drop NONE.TXT disk
+ends 2 "since north.txt can't be dropped: 004 name not found; there is NORTH.TXT: upper and lower case differ" repair --drop north.txt disk
 ends 2 "9.TXT can't be dropped: 021" repair --drop 9.TXT disk
 ends 2 "at most 8 characters" repair --drop NINECHARS.TXT disk
 patch $(($(slot 2) + 11)) 64

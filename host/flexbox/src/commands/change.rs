@@ -61,7 +61,9 @@ fn accept(words: &Words, diskette: &mut Diskette) -> Result<bool, Failure> {
         note(&format!("{}: damaged, and changed all the same by --force: sound files may be lost", name));
         return Ok(false);
     }
-    note(&format!("{}: not changed, since that could destroy sound files; --force would change it", name));
+    let can_force = words.takes("--force") && !words.has("--slot");
+    let way_out = if can_force { "; --force would change it" } else { "" };
+    note(&format!("{}: not changed, since that could destroy sound files{}", name, way_out));
     let word = quoted(&words.image().to_string_lossy());
     note(&format!("flexbox repair --dry-run {} says what a repair would do", word));
     Err(Failure::Shown)

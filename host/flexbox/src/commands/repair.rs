@@ -4,7 +4,7 @@
 
 use super::check as report;
 use super::dropping::drop_file;
-use super::{full, plural, print, told_name, try_print, typed, wrong_length};
+use super::{full, hint, plural, print, try_print, typed, with_extension, wrong_length};
 use crate::check::{self, file, Check, Owner, Unreached};
 use crate::failure::Failure;
 use crate::image::Image;
@@ -72,8 +72,9 @@ fn drop_files(words: &Words, diskette: &mut Diskette) -> Result<(String, Vec<Ent
         let typed_name = text(word)?;
         let name = full(&typed(typed_name)?);
         let file = drop_file(diskette, &name).map_err(|refusal| {
-            let (disk, told) = (words.image().display(), told_name(typed_name, &name, refusal, diskette));
-            Failure::Unrepaired(format!("{}: not changed, since {} can't be dropped: {}", disk, told, refusal))
+            let (disk, hint) = (words.image().display(), hint(&name, refusal, diskette));
+            let told = format!("{} can't be dropped: {}{}", with_extension(typed_name, &name), refusal, hint);
+            Failure::Unrepaired(format!("{}: not changed, since {}", disk, told))
         })?;
         let _ = writeln!(lines, "{} is dropped first", name);
         files.push(file);
