@@ -58,7 +58,10 @@ done
 does delete disk A.TXT
 does delete disk B.TXT
 refuses 1 "A.TXT: not brought back: several deleted slots have this name: 1, 2; --slot says which" undelete disk A.TXT
-refuses 1 "no deleted slot has this name" undelete --slot 3 disk A.TXT
+refuses 1 "A.TXT: not brought back: slot 3 is no deleted slot of the directory" undelete --slot 3 disk A.TXT
+refuses 1 "slot 99 is no deleted slot of the directory" undelete --slot 99 disk A.TXT
+refuses 1 "the deleted slot 1 has not this name but for the first letter" undelete --slot 1 disk AB.TXT
+refuses 2 "undelete: --slot needs a name" undelete --slot 1 disk
 refuses 2 "--slot takes a slot from 1 to 65535, not '0'" undelete --slot 0 disk A.TXT
 does undelete --slot 2 disk B.TXT
 does undelete disk A.TXT

@@ -94,7 +94,7 @@ if command -v script >/dev/null; then
         [ "$got" = "$2" ] || fail "status $got, not $2, when '$1' was typed: $(cat out)"
         shows "flexbox: disk: $cut. Repair it all the same? [y/N] "
     }
-    for answer in n '' no x; do
+    for answer in n '' no x 'yikes no'; do
         accident
         cp disk old
         rm -f disk.before

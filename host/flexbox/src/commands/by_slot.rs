@@ -32,6 +32,14 @@ pub fn shown(number: usize) -> String {
     format!("slot {}", number)
 }
 
+/// How it is told with a refusal.
+pub fn refused_slot(number: usize, refusal: Refusal) -> String {
+    match refusal {
+        Refusal::NotFound => format!("slot {}, which holds no file", number),
+        _ => shown(number),
+    }
+}
+
 pub fn get(diskette: &mut Diskette, number: usize) -> Result<Reading, Refusal> {
     // Only the copy in memory has the name that is lent.
     let mut copy = diskette.clone();
@@ -49,8 +57,12 @@ pub fn delete(diskette: &mut Diskette, number: usize) -> Result<(), Refusal> {
     diskette.put_slot(number, &old)
 }
 
+/// To its own name is refused as the service refuses it.
 pub fn rename(diskette: &mut Diskette, number: usize, new: &Name) -> Result<(), Refusal> {
-    let (name, _) = lend(diskette, number)?;
+    let (name, old) = lend(diskette, number)?;
+    if old[..NAME_BYTES] == *new.bytes() {
+        return Err(Refusal::Exists);
+    }
     diskette.rename(&name, new)
 }
 

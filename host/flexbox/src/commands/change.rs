@@ -86,8 +86,10 @@ pub fn say_where(image: &Path, diskette: &mut Diskette) {
 pub fn delete(words: &Words) -> Result<(), Failure> {
     if let Some(number) = by_slot::number_to_change(words)? {
         words.expect_others(0..=0)?;
-        let what = by_slot::shown(number);
-        return change(words, |diskette| by_slot::delete(diskette, number).map_err(refused(words.image(), &what)));
+        return change(words, |diskette| {
+            let deleted = by_slot::delete(diskette, number);
+            deleted.map_err(|refusal| refused_with(words.image(), &by_slot::refused_slot(number, refusal), refusal))
+        });
     }
     words.expect_others(1..=1)?;
     let text = words.text(0)?;
@@ -106,8 +108,12 @@ pub fn rename(words: &Words) -> Result<(), Failure> {
     let new = words.text(others - 1)?;
     let to = super::typed(new)?;
     if let Some(number) = number {
-        let what = format!("{} to {}", by_slot::shown(number), told_new(new, &to));
-        return change(words, |diskette| by_slot::rename(diskette, number, &to).map_err(refused(words.image(), &what)));
+        return change(words, |diskette| {
+            by_slot::rename(diskette, number, &to).map_err(|refusal| {
+                let what = format!("{} to {}", by_slot::refused_slot(number, refusal), told_new(new, &to));
+                refused_with(words.image(), &what, refusal)
+            })
+        });
     }
     let old = words.text(0)?;
     let from = super::typed(old)?;

@@ -12,6 +12,7 @@ use flex::{Address, Name, Shape, LARGEST_IMAGE};
 use std::collections::HashSet;
 use std::fmt::Write;
 use std::fs;
+use std::io;
 use std::path::Path;
 
 /// Status 1 where something is not whole, or in no file: what could be read is given, but not as if it were all.
@@ -73,7 +74,10 @@ fn make_folder(folder: &Path) -> Result<(), Failure> {
             None => Ok(()),
             Some(_) => Err(failed("it is not empty; salvage needs a new folder or an empty one".to_string())),
         },
-        Err(_) => fs::create_dir(folder).map_err(|error| failed(error.to_string())),
+        Err(error) if error.kind() == io::ErrorKind::NotFound => {
+            fs::create_dir(folder).map_err(|error| failed(error.to_string()))
+        }
+        Err(error) => Err(failed(error.to_string())),
     }
 }
 

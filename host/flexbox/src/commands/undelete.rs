@@ -28,6 +28,9 @@ struct Deleted {
 
 pub fn run(words: &Words) -> Result<(), Failure> {
     match words.others() {
+        [] if words.has("--slot") => {
+            Err(words.misused("--slot needs a name, whose first letter the delete has overwritten"))
+        }
         [] => list(words),
         _ => bring_back(words),
     }
@@ -73,16 +76,26 @@ fn bring_back(words: &Words) -> Result<(), Failure> {
 /// The one deleted slot that has this name but for the first letter, which the delete has overwritten.
 fn chosen(words: &Words, all: Vec<Deleted>, name: &Name, wanted: Option<u16>) -> Result<Deleted, Failure> {
     let is_wanted = |file: &Deleted| wanted.map_or(true, |number| file.number == number as usize);
+    let is_there = all.iter().any(is_wanted);
     let fits = |file: &Deleted| file.slot[1..name.bytes().len()] == name.bytes()[1..];
     let mut fitting: Vec<Deleted> = all.into_iter().filter(|file| is_wanted(file) && fits(file)).collect();
     match (fitting.pop(), fitting.is_empty()) {
         (Some(file), true) => Ok(file),
-        (None, _) => Err(told(words, &name.to_string(), "no deleted slot has this name but for the first letter")),
+        (None, _) => Err(told(words, &name.to_string(), &none_fits(is_there, wanted))),
         (Some(last), false) => {
             let numbers: Vec<String> = fitting.iter().chain([&last]).map(|file| file.number.to_string()).collect();
             let why = format!("several deleted slots have this name: {}; --slot says which", numbers.join(", "));
             Err(told(words, &name.to_string(), &why))
         }
+    }
+}
+
+/// Why there is none to choose.
+fn none_fits(is_there: bool, wanted: Option<u16>) -> String {
+    match wanted {
+        Some(number) if !is_there => format!("slot {} is no deleted slot of the directory", number),
+        Some(number) => format!("the deleted slot {} has not this name but for the first letter", number),
+        None => "no deleted slot has this name but for the first letter".to_string(),
     }
 }
 
