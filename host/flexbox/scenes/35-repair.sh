@@ -422,9 +422,28 @@ ends 2 "not repairable: 042" repair --yes disk
 fresh
 patch "$(slot 3)" 78 79 82 84 72
 ends 2 "flexbox: disk: not repairable: 043 two files of one name: NORTH.TXT (slot 2, at 0,5 byte 40) and slot 3 have one name" repair disk
-says "rename --force gives the first of them another"
+says "flexbox rename --slot 2 disk NEW.EXT gives one of them another"
 warns "" rename --force disk NORTH.TXT OTHER.TXT
 does repair disk
+# By its slot also where no call takes the name, or the first of the two is protected; the old image is kept.
+fresh
+patch "$(slot 2)" 57 0 0 0 0
+patch "$(slot 3)" 57 0 0 0 0
+ends 2 "flexbox rename --slot 2 disk NEW.EXT gives one of them another" repair disk
+rm -f disk.before*
+warns "disk: saved; its census: accepted; the old image is disk.before" rename --slot 2 disk NEW.TXT
+does check disk
+fresh
+patch "$(slot 3)" 78 79 82 84 72
+patch $(($(slot 2) + 11)) 128
+ends 2 "flexbox rename --slot 3 disk NEW.EXT gives one of them another" repair disk
+refuses 1 "DISK ERROR #011" rename --slot 2 disk NEW.TXT
+warns "its census: accepted" rename --slot 3 disk NEW.TXT
+does check disk
+fresh
+patch "$(slot 3)" 78 79 82 84 72
+warns "its census: accepted" delete --slot 3 disk
+keeps NORTH.TXT POWER.TXT
 fresh
 truncate -s -1 disk
 refuses 2 "flexbox: disk: not repairable: 041 not the image of a diskette" repair disk

@@ -40,7 +40,8 @@ fn save_forced(
     let kept = image.save_keeping(old, diskette.image())?;
     let census = refusal.map_or("accepted".to_string(), |refusal| refusal.to_string());
     let disk = words.image().display();
-    note(&format!("{}: saved by --force; its census: {}; the old image is {}", disk, census, kept.display()));
+    let how = if words.has("--force") { "saved by --force" } else { "saved" };
+    note(&format!("{}: {}; its census: {}; the old image is {}", disk, how, census, kept.display()));
     Ok(())
 }
 
@@ -57,6 +58,10 @@ fn accept(words: &Words, diskette: &mut Diskette) -> Result<bool, Failure> {
     failure.say();
     say_where(words.image(), diskette);
     let name = words.image().display();
+    if words.has("--slot") && words.takes("--force") && has_twins_alone(diskette) {
+        note(&format!("{}: changed all the same: but for the names nothing is wrong", name));
+        return Ok(false);
+    }
     if words.has("--force") {
         note(&format!("{}: damaged, and changed all the same by --force: sound files may be lost", name));
         return Ok(false);
@@ -67,6 +72,11 @@ fn accept(words: &Words, diskette: &mut Diskette) -> Result<bool, Failure> {
     let word = quoted(&words.image().to_string_lossy());
     note(&format!("flexbox repair --dry-run {} says what a repair would do", word));
     Err(Failure::Shown)
+}
+
+/// Whether files of one name are all that is wrong: then a slot can be renamed or deleted as on a sound diskette.
+fn has_twins_alone(diskette: &mut Diskette) -> bool {
+    check::check(diskette).map_or(false, |check| check.findings.iter().all(|finding| finding.number == 43))
 }
 
 /// Tells the places of the damage on standard error.

@@ -2,6 +2,7 @@
 //!
 //! Exit status: 0 nothing was wrong, and nothing is written; 1 repaired; 2 not repaired, with the reason.
 
+use super::by_slot;
 use super::check as report;
 use super::dropping::drop_file;
 use super::{full, hint, plural, print, try_print, typed, with_extension, wrong_length};
@@ -34,7 +35,10 @@ pub fn run(words: &Words) -> Result<(), Failure> {
         false => found,
     };
     let plan = Plan::of(check, &diskette, &files);
-    let repaired = plan.repaired.as_ref().map_err(|&refusal| unrepairable(words, refusal, &reason(&plan, refusal)))?;
+    let repaired = plan
+        .repaired
+        .as_ref()
+        .map_err(|&refusal| unrepairable(words, refusal, &reason(words, &plan, refusal, &diskette)))?;
     print((dropped + &told(words, &plan, repaired, diskette.image())).as_bytes())?;
     if words.has("--dry-run") {
         print(b"a dry run: nothing is written\n")?;
@@ -103,12 +107,31 @@ fn unrepairable(words: &Words, refusal: Refusal, why: &str) -> Failure {
 }
 
 /// What one who reads the refusal needs to know of it.
-fn reason(plan: &Plan, refusal: Refusal) -> String {
+fn reason(words: &Words, plan: &Plan, refusal: Refusal, diskette: &Diskette) -> String {
     let first = plan.check.findings.iter().find(|finding| finding.number == refusal.number());
     let what = first.map_or(String::new(), |finding| finding.to_string());
     match refusal {
-        Refusal::CensusNames => format!("{}; rename --force gives the first of them another", what),
+        Refusal::CensusNames => what + &names_way_out(words, &plan.check, diskette),
         _ => what,
+    }
+}
+
+/// How one of two files of one name gets another, or is given up, where trying it on a copy works.
+fn names_way_out(words: &Words, check: &Check, diskette: &Diskette) -> String {
+    let disk = quoted(&words.image().to_string_lossy());
+    let twins = check.findings.iter().filter(|finding| finding.number == 43).flat_map(|finding| &finding.slots);
+    let twins: Vec<usize> = twins.copied().collect();
+    let names_alone = check.findings.iter().all(|finding| finding.number == 43);
+    let can_rename = |&&slot: &&usize| by_slot::can_rename(diskette, slot);
+    if let Some(slot) = twins.iter().find(can_rename).filter(|_| names_alone) {
+        return format!("; flexbox rename --slot {} {} NEW.EXT gives one of them another", slot, disk);
+    }
+    let name = twins.first().and_then(|&slot| check.slots[slot - 1].entry()).map(|entry| entry.name);
+    match name {
+        Some(name) if drop_file(&mut diskette.clone(), &name).is_ok() => {
+            format!("; flexbox rename --force {} {} NEW.EXT gives the first of them another", disk, name)
+        }
+        _ => format!("; flexbox salvage {} FOLDER saves both", disk),
     }
 }
 

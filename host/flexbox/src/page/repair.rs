@@ -58,7 +58,12 @@ fn next(subject: &Subject) -> Vec<(&'static str, String)> {
             let twin = subject.check.findings.iter().find(|finding| finding.number == 43);
             let slot = twin.and_then(|finding| subject.check.slots.get(finding.slots.first()? - 1));
             let name = slot.and_then(|slot| slot.entry()).map_or(String::new(), |entry| entry.name.to_string());
-            let command = format!("flexbox rename --force {} {} NEW.EXT", disk, quoted(&name));
+            let command = match slot {
+                Some(slot) if subject.check.findings.iter().all(|finding| finding.number == 43) => {
+                    format!("flexbox rename --slot {} {} NEW.EXT", slot.number, disk)
+                }
+                _ => format!("flexbox rename --force {} {} NEW.EXT", disk, quoted(&name)),
+            };
             vec![save, ("Then give the first of the two another name", command)]
         }
         Some(Err(_)) => vec![save],

@@ -239,7 +239,7 @@ fn what_a_repair_would_do_and_the_next_command_are_told() {
     assert!(repair(&lost).starts_with("<p>It can't be repaired: 042 directory not right.</p>"), "{}", repair(&lost));
     assert!(repair(&lost).ends_with("<code>flexbox salvage disk FOLDER</code></p>\n"), "{}", repair(&lost));
     let twins = made("disk", &[(SLOT_B, b"A")]);
-    assert!(repair(&twins).contains("<code>flexbox rename --force disk A.TXT NEW.EXT</code>"), "{}", repair(&twins));
+    assert!(repair(&twins).contains("<code>flexbox rename --slot 1 disk NEW.EXT</code>"), "{}", repair(&twins));
 }
 
 #[test]
