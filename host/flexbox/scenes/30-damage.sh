@@ -163,6 +163,8 @@ ends 1 "" check disk
 shows "46 2 sectors (2,5 to 2,6) are in no chain"
 shows "  not reached by the directory: LOG11.TXT (at 0,6 byte 16), 1 sector from 2,5 to 2,5, 1 of them in no chain"
 shows "  not reached by the directory: LOG12.TXT (at 0,6 byte 40), 1 sector from 2,6 to 2,6, 1 of them in no chain"
+ends 1 "" check disk sound
+shows "DISK ERROR #046: a sector is in no chain, or in two, 2 files not reached by the directory"
 ends 1 "" check --json disk
 shows '"unreached":[{"name":"LOG11.TXT","directory_sector":[0,6],"displacement":16,"sectors":1,"start":[2,5],"end":[2,5],"in_no_chain":1},'
 does info disk

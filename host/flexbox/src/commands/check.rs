@@ -23,7 +23,7 @@ const PASSES: [(u8, &str); 5] = [
 pub fn run(words: &Words) -> Result<(), Failure> {
     match words.others() {
         [] => one(words, as_text),
-        _ => on_each(words, |words| one(words, |words, check, _| last_line(words, check))),
+        _ => on_each(words, |words| one(words, only_line)),
     }
 }
 
@@ -74,6 +74,20 @@ fn as_text(words: &Words, check: &Check, left: &[String]) -> String {
     }
     text.push_str(&last_line(words, check));
     text
+}
+
+/// The last line, with the number of what else is told of one image.
+fn only_line(words: &Words, check: &Check, left: &[String]) -> String {
+    let mut line = last_line(words, check).trim_end().to_string();
+    let counts = [
+        (check.unreached.len(), "file", "not reached by the directory"),
+        (check.gone.len(), "deleted or damaged slot", "with sectors in no chain"),
+        (left.len(), "file", "left by a flexbox that is gone"),
+    ];
+    for (count, what, how) in counts.into_iter().filter(|row| row.0 > 0) {
+        let _ = write!(line, ", {} {}", plural(count, what), how);
+    }
+    line + "\n"
 }
 
 /// The files that the directory has lost, a line each.

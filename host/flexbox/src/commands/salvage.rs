@@ -82,7 +82,7 @@ fn make_folder(folder: &Path) -> Result<(), Failure> {
 }
 
 /// What each file is called in the folder: as on the diskette, with _ for what is no letter, digit or hyphen, and a number behind it where
-/// the name is taken; a lost chain LOST0001.DAT and on.
+/// the name is taken, in large or small letters, since some file systems do not tell them apart; a lost chain LOST0001.DAT and on.
 fn names(files: &[Found]) -> Vec<String> {
     let mut taken = HashSet::new();
     let mut lost = 0;
@@ -95,7 +95,7 @@ fn names(files: &[Found]) -> Vec<String> {
             }
         };
         let numbered = |number: usize| if number == 1 { plain.clone() } else { format!("{}-{}", plain, number) };
-        (1..).map(numbered).find(|name| taken.insert(name.clone())).unwrap_or_default()
+        (1..).map(numbered).find(|name| taken.insert(name.to_lowercase())).unwrap_or_default()
     };
     files.iter().map(&mut name).collect()
 }
@@ -247,6 +247,7 @@ mod tests {
         let files = [Some("A.TXT"), Some("LOST0001.DAT"), Some("A.TXT"), None, Some("A.TXT"), None].map(file);
         let expected = ["A.TXT", "LOST0001.DAT", "A.TXT-2", "LOST0001.DAT-2", "A.TXT-3", "LOST0002.DAT"];
         assert_eq!(names(&files), expected);
+        assert_eq!(names(&[Some("A.TXT"), Some("a.TXT")].map(file)), ["A.TXT", "a.TXT-2"]);
     }
 
     #[test]
