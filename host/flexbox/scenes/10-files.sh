@@ -161,6 +161,9 @@ cmp out north
 does get --slot 2 disk by-slot
 cmp by-slot north
 refuses 3 "by-slot: it is there already; --replace would replace it" get --slot 2 disk by-slot
+ln by-slot second-name
+refuses 3 "by-slot: it has several hard links" get --slot 2 --replace disk by-slot
+rm second-name
 does get --slot 2 --replace --trim disk by-slot
 does check disk
 cp disk named
@@ -174,9 +177,10 @@ does undelete disk
 shows "   2  ???TH.TXT     can be brought back, 5 sectors"
 cp named disk
 refuses 1 "DISK ERROR #003: name exists already (disk, slot 2 to SOUTH.TXT)" rename --slot 2 disk SOUTH.TXT
+refuses 1 "DISK ERROR #003: name exists already (disk, slot 3 to SOUTH.TXT)" rename --slot 3 disk SOUTH.TXT
 refuses 1 "DISK ERROR #021" rename --slot 2 disk 9.TXT
 for slot in 1 5 41 65535; do # deleted, never used, and more than there are
-    refuses 1 "DISK ERROR #004: name not found (disk, slot $slot)" get --slot $slot disk
+    refuses 1 "DISK ERROR #004: name not found (disk, slot $slot, which holds no file)" get --slot $slot disk
     refuses 1 "DISK ERROR #004" delete --slot $slot disk
     refuses 1 "DISK ERROR #004" rename --slot $slot disk NEW.TXT
 done

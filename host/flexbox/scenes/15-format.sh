@@ -146,7 +146,7 @@ shows "volume   0"
 # ---- where its line can't be printed, it is said all the same that the old image is gone, or a new one made
 if [ -c /dev/full ]; then
     fresh
-    unprinted "flexbox: disk: formatted, but standard output: No space left" format --replace disk
+    unprinted "flexbox: disk: formatted, and the old image is disk.before" format --replace disk
     does check disk
     shows "disk: clean, 0 files"
     rm disk
@@ -186,3 +186,10 @@ does get --trim --replace --files disk LOG7.TXT LOG32.TXT
 [ "$(cat LOG7.TXT LOG32.TXT)" = "$(printf 'log 7\nlog 32')" ] || fail "not what was put: $(cat LOG7.TXT LOG32.TXT)"
 does report disk
 shows "FULL"
+
+# ---- the old image is told of where the lines can't be printed
+if [ -c /dev/full ]; then
+    fresh
+    rm -f disk.before*
+    unprinted "disk: formatted, and the old image is disk.before, but standard output" format --replace disk
+fi

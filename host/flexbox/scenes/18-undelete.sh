@@ -58,11 +58,29 @@ done
 does delete disk A.TXT
 does delete disk B.TXT
 refuses 1 "A.TXT: not brought back: several deleted slots have this name: 1, 2; --slot says which" undelete disk A.TXT
-refuses 1 "no deleted slot has this name" undelete --slot 3 disk A.TXT
+refuses 1 "A.TXT: not brought back: slot 3 is no deleted slot of the directory" undelete --slot 3 disk A.TXT
+refuses 1 "slot 99 is no deleted slot of the directory" undelete --slot 99 disk A.TXT
+refuses 1 "the deleted slot 1 has not this name but for the first letter" undelete --slot 1 disk AB.TXT
+refuses 2 "undelete: --slot needs a name" undelete --slot 1 disk
 refuses 2 "--slot takes a slot from 1 to 65535, not '0'" undelete --slot 0 disk A.TXT
 does undelete --slot 2 disk B.TXT
 does undelete disk A.TXT
 does check disk
+
+# ---- a sector that two deleted files had: X.TXT took that of B.TXT and the slot of A.TXT
+rm -f disk
+does format --tracks 2 --sectors 5 disk
+for name in A B; do does put disk $name.TXT <<<$name$name$name$name; done
+head -c 700 /dev/zero | tr '\0' x >rest
+does put disk C.TXT=rest
+does delete disk B.TXT
+does delete disk A.TXT
+does put disk X.TXT <<<XXXX
+does delete disk X.TXT
+does undelete disk
+hides "can be brought back"
+shows "   1  ?.TXT         can't be brought back: the deleted file of slot 2 had its sector 1,2, too"
+refuses 1 "B.TXT: not brought back: the deleted file of slot 1 had its sector 1,2, too" undelete --slot 2 disk B.TXT
 
 # ---- what is not free any more, or not in order
 fresh
@@ -76,7 +94,7 @@ does delete disk NORTH.TXT
 does delete disk SOUTH.TXT
 patch 546 1
 status=0
-"${flexbox[@]}" repair disk >out || status=$?
+"${flexbox[@]}" repair --yes disk >out || status=$?
 checks=$((checks + 1))
 [ "$status" = 1 ] || fail "status $status after a repair"
 refuses 1 "its sector 2 of 5, at 1,4, has the record number" undelete disk NORTH.TXT

@@ -13,7 +13,7 @@ patch 546 1
 mv disk damaged
 head -c 1000 one >short
 ends 1 "" check one damaged two
-prints "one: clean, 3 files, 13 of 32 sectors used, 19 free" "damaged: DAMAGED, 2 findings: DISK ERROR #044: free chain not right" \
+prints "one: clean, 3 files, 13 of 32 sectors used, 19 free" "damaged: DAMAGED, 2 findings: DISK ERROR #044: free chain not right; 1 deleted or damaged slot with sectors in no chain" \
     "two: clean, 3 files, 13 of 32 sectors used, 19 free"
 [ ! -s err ] || fail "wrote to standard error: $(cat err)"
 ends 1 "DISK ERROR #041: not the image of a diskette, or no such shape (short, 1000 bytes; tracks 0 to 4 of 8 sectors, as it states, have 10240)" \

@@ -202,3 +202,11 @@ ends 1 "" check disk
 shows "not reached by the directory: LOG11.TXT"
 ends 2 "not repairable: 042" repair disk
 shows "not reached by the directory: LOG11.TXT"
+
+# ---- --force is told of only where it would help
+fresh
+patch "$(sector 1 6)" 9 9
+for words in "undelete disk OLD.TXT" "delete --slot 4 disk" "rename --slot 4 disk NEW.TXT"; do
+    refuses 1 "disk: not changed, since that could destroy sound files" $words
+    ! grep -qF -- --force err || fail "--force is told of: $words: $(cat err)"
+done

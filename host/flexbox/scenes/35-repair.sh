@@ -58,7 +58,7 @@ printf '%s\n' "disk: DAMAGED, 2 findings: DISK ERROR #046: a sector is in no cha
     "  SOUTH.TXT (slot 3, at 0,5 byte 64): kept whole, 6 sectors" \
     "  POWER.TXT (slot 4, at 0,5 byte 88): cut from 2 to 1 sector: it leads on to 2,7, which NORTH.TXT (slot 2, at 0,5 byte 40) has" \
     "  free: 20 sectors, 1 of them found again, which was in no chain" \
-    "  lost: up to 1 sector of 1 file" \
+    "  lost: up to 1 sector of 1 file, and 1 written sector in no chain" \
     "POWER.TXT is rightly chained, and would be cut for NORTH.TXT (slot 2, at 0,5 byte 40), which comes before it." \
     "  to keep all of POWER.TXT and lose NORTH.TXT: flexbox repair --drop NORTH.TXT disk" \
     "  to keep what both have now: flexbox get --force disk POWER.TXT=FILE before, flexbox put --replace disk POWER.TXT=FILE afterwards" \
@@ -69,6 +69,7 @@ cp out dry
 
 # ---- nobody can be asked whether POWER.TXT may be cut: not changed
 cut="1 file would lose up to 1 sector: POWER.TXT (2 to 1 sector, for NORTH.TXT (slot 2, at 0,5 byte 40))"
+cut+="; and 1 written sector in no chain would be free, which may be a file's"
 ends 2 "flexbox: disk: not changed, since $cut; standard input" repair disk </dev/null
 says "--yes repairs it all the same"
 ends 2 "standard input is no terminal to ask at" repair disk < <(yes)
@@ -93,7 +94,7 @@ if command -v script >/dev/null; then
         [ "$got" = "$2" ] || fail "status $got, not $2, when '$1' was typed: $(cat out)"
         shows "flexbox: disk: $cut. Repair it all the same? [y/N] "
     }
-    for answer in n '' no x; do
+    for answer in n '' no x 'yikes no'; do
         accident
         cp disk old
         rm -f disk.before
@@ -182,18 +183,19 @@ does get "$demo" POWER.TXT
 cmp out power
 does check disk
 accident
-mends --drop NORTH.TXT disk
+ends 2 "not changed, since 1 written sector in no chain would be free, which may be a file's; standard" repair --drop NORTH.TXT disk </dev/null
+mends --yes --drop NORTH.TXT disk
 shows "NORTH.TXT is dropped first"
 shows "  46 sector 2,7 is held by NORTH.TXT"
 hides "rightly chained"
-hides "lost:"
+shows "lost: 1 written sector in no chain"
 keeps SOUTH.TXT POWER.TXT
 does list disk
 hides NORTH.TXT
 accident
 rm -f disk.before
 warns "its census: 046 a sector is in no chain, or in two; the old image is disk.before" delete --force disk NORTH.TXT
-mends disk
+mends --yes disk
 hides "rightly chained"
 keeps SOUTH.TXT POWER.TXT
 
@@ -201,7 +203,7 @@ keeps SOUTH.TXT POWER.TXT
 accident
 ends 1 "" repair --dry-run --drop NORTH disk
 shows "NORTH.TXT is dropped first"
-mends --drop POWER.TXT --drop NORTH.TXT disk
+mends --yes --drop POWER.TXT --drop NORTH.TXT disk
 keeps SOUTH.TXT
 does list disk
 shows "1 file in "
@@ -214,6 +216,7 @@ does get disk NORTH.TXT
 cmp out south
 accident
 ends 2 "flexbox: disk: not changed, since NONE.TXT can't be dropped: 004 name not found" repair --drop NONE.TXT disk
+ends 2 "since north.txt can't be dropped: 004 name not found; there is NORTH.TXT: upper and lower case differ" repair --drop north.txt disk
 ends 2 "9.TXT can't be dropped: 021" repair --drop 9.TXT disk
 ends 2 "at most 8 characters" repair --drop NINECHARS.TXT disk
 patch $(($(slot 2) + 11)) 64
@@ -232,7 +235,7 @@ status=0
 way=$(sed -n 's/.*lose NORTH.TXT: flexbox //p' out)
 [ "$way" = "repair --drop NORTH.TXT 'my disk'" ] || fail "the way out is told as: $way"
 status=0
-eval '"${flexbox[@]}"' "$way" >out || status=$?
+eval '"${flexbox[@]}"' "$way" --yes >out || status=$?
 [ "$status" = 1 ] || fail "status $status of the way out"
 checks=$((checks + 2))
 rm "my disk" "my disk.before"
@@ -243,12 +246,17 @@ patch "$(sector 1 3)" 2 6
 patch $(($(slot 2) + 17)) 0 3
 ends 1 "" repair --dry-run disk
 shows "45 NORTH.TXT (slot 2, at 0,5 byte 40): sector 3 of 3 is at 2,7, but its stated end is 2,4"
-shows "NORTH.TXT (slot 2, at 0,5 byte 40): kept as it is stated, 3 sectors; another end was stated, 2,4"
+shows "NORTH.TXT (slot 2, at 0,5 byte 40): kept as it is stated, 3 sectors, but to its stated end, 2,4, lead 4 sectors in no chain"
 shows "POWER.TXT (slot 4, at 0,5 byte 88): cut from 2 to 0 sectors: its start is 2,6, which NORTH.TXT (slot 2, at 0,5 byte 40) has"
 shows "POWER.TXT is rightly chained, and would be cut for NORTH.TXT (slot 2, at 0,5 byte 40), which is damaged and comes before it."
-ends 2 "not changed, since 1 file would lose up to 2 sectors: POWER.TXT (2 to 0 sectors, for NORTH.TXT" repair disk
+ends 2 "not changed, since 2 files would lose up to 6 sectors: NORTH.TXT (4 sectors on the way to its stated end), POWER.TXT (2 to 0" repair disk
+says "POWER.TXT (2 to 0 sectors, for NORTH.TXT"
+cp disk both
+mends --drop NORTH.TXT disk
+keeps SOUTH.TXT POWER.TXT
+cp both disk
 warns "" delete --force disk NORTH.TXT
-mends disk
+mends --yes disk
 keeps SOUTH.TXT POWER.TXT
 
 # ---- no way out is told that is none: the earlier file is protected, the later one can't be read
@@ -315,23 +323,80 @@ mends disk
 shows "NORTH.TXT (slot 2, at 0,5 byte 40): kept as it is stated, 5 sectors; behind them its chain led on to 3,1"
 hides "lost:"
 keeps NORTH.TXT SOUTH.TXT POWER.TXT
-fresh
-patch 541 1 3
-mends disk
-shows "44 the free chain: "
-shows "POWER.TXT (slot 4, at 0,5 byte 88): kept whole, 2 sectors"
-keeps NORTH.TXT SOUTH.TXT POWER.TXT
+# A free chain that is wrong, its sectors never written: on a diskette with one file.
+head -c 1000 /dev/urandom >four
+for free in "1 3" "0 0 0 0 0 0" "9 9" "0 0"; do
+    rm -f disk
+    does format --tracks 5 --sectors 8 disk
+    does put disk A.TXT=four
+    patch 541 $free
+    mends disk
+    shows "disk: DAMAGED, "
+    shows "A.TXT (slot 1, at 0,5 byte 16): kept whole, 4 sectors"
+    shows "free: 28 sectors, "
+    hides "lost:"
+    does get --trim disk A.TXT
+    cmp out four
+done
+
+# ---- what stands in sectors in no chain can be a file's: they are not freed unasked, whichever file keeps as many sectors as it states
+# A deleted file's, whose name is told but for its first letter, where the free chain is lost.
 fresh
 patch 541 0 0 0 0 0 0
-mends disk
+cuts "1 file would lose up to 2 sectors: ?LD.TXT (of the deleted or damaged slot at 0,5 byte 16, 2 sectors in no chain)" \
+    "up to 2 sectors of 1 file"
+shows "of a deleted or damaged slot: ?LD.TXT (at 0,5 byte 16), 2 sectors from "
 shows "free: 19 sectors, 19 of them found again, which were in no chain"
 keeps NORTH.TXT SOUTH.TXT POWER.TXT
+# One byte of a slot: its first, whatever it is then. Or all of it.
+for byte in 255 211 0; do
+    fresh
+    patch "$(slot 3)" "$byte"
+    cuts "1 file would lose up to 6 sectors: ?OUTH.TXT (of the deleted or damaged slot at 0,5 byte 64, 6 sectors in no chain)" \
+        "up to 6 sectors of 1 file"
+    shows "free: 25 sectors, 6 of them found again, which were in no chain"
+    hides " SOUTH.TXT"
+    keeps NORTH.TXT POWER.TXT
+done
 fresh
-patch $(($(slot 3) + 0)) 255
-mends disk
-shows "free: 25 sectors, 6 of them found again, which were in no chain"
-hides SOUTH.TXT
+patch "$(slot 3)" 0 0 0 0 0 0 0 0 0 0 0 0 0 0 0 0 0 0 0 0 0 0 0 0
+cuts "6 written sectors in no chain would be free, which may be a file's" "6 written sectors in no chain"
 keeps NORTH.TXT POWER.TXT
+# A link or a start that leads into the free chain: BIG.TXT keeps 20 sectors, and 18 or none of them are its own.
+big() {
+    rm -f disk
+    does format --tracks 9 --sectors 8 disk
+    head -c 600 /dev/urandom >three
+    head -c 5040 /dev/urandom >twenty
+    does put disk A.TXT=three BIG.TXT=twenty
+}
+big
+patch "$(sector 1 5)" 5 1
+cuts "1 file would lose up to 18 sectors: BIG.TXT (18 sectors on the way to its stated end)" "up to 18 sectors of 1 file"
+shows "BIG.TXT (slot 2, at 0,5 byte 40): kept as it is stated, 20 sectors, but to its stated end, 3,7, lead 18 sectors in no chain"
+big
+patch $(($(slot 2) + 13)) 6
+cuts "1 file would lose up to 20 sectors: BIG.TXT (20 sectors on the way to its stated end)" "up to 20 sectors of 1 file"
+# A.TXT leads to the start of BIG.TXT, and its own third sector is lost, too.
+big
+patch "$(sector 1 2)" 1 4
+ends 2 "2 files would lose up to 21 sectors: A.TXT (1 sector on the way to its stated end), " repair disk </dev/null
+says "BIG.TXT (20 to 0 sectors, for A.TXT"
+# Dropped with all that leads to its end.
+big
+patch "$(sector 1 5)" 5 1
+mends --drop BIG.TXT disk
+hides "lost:"
+# The data sector of a directory that has grown, and was cut off.
+rm -f disk
+does format --tracks 4 --sectors 5 disk
+for number in 1 2 3 4 5 6 7 8 9 10 11; do echo "$number" >"F$number.TXT"; done
+does put --files disk F*.TXT
+patch 1024 0 0
+cuts "2 written sectors in no chain would be free, which may be a file's" "2 written sectors in no chain"
+fresh
+patch "$(slot 3)" 255
+mends --yes disk
 printf 'bytes\n' >lines
 does put disk NEW.TXT <lines
 does check disk
@@ -357,9 +422,28 @@ ends 2 "not repairable: 042" repair --yes disk
 fresh
 patch "$(slot 3)" 78 79 82 84 72
 ends 2 "flexbox: disk: not repairable: 043 two files of one name: NORTH.TXT (slot 2, at 0,5 byte 40) and slot 3 have one name" repair disk
-says "rename --force gives the first of them another"
+says "flexbox rename --slot 2 disk NEW.EXT gives one of them another"
 warns "" rename --force disk NORTH.TXT OTHER.TXT
 does repair disk
+# By its slot also where no call takes the name, or the first of the two is protected; the old image is kept.
+fresh
+patch "$(slot 2)" 57 0 0 0 0
+patch "$(slot 3)" 57 0 0 0 0
+ends 2 "flexbox rename --slot 2 disk NEW.EXT gives one of them another" repair disk
+rm -f disk.before*
+warns "disk: saved; its census: accepted; the old image is disk.before" rename --slot 2 disk NEW.TXT
+does check disk
+fresh
+patch "$(slot 3)" 78 79 82 84 72
+patch $(($(slot 2) + 11)) 128
+ends 2 "flexbox rename --slot 3 disk NEW.EXT gives one of them another" repair disk
+refuses 1 "DISK ERROR #011" rename --slot 2 disk NEW.TXT
+warns "its census: accepted" rename --slot 3 disk NEW.TXT
+does check disk
+fresh
+patch "$(slot 3)" 78 79 82 84 72
+warns "its census: accepted" delete --slot 3 disk
+keeps NORTH.TXT POWER.TXT
 fresh
 truncate -s -1 disk
 refuses 2 "flexbox: disk: not repairable: 041 not the image of a diskette" repair disk

@@ -42,8 +42,8 @@ shows "  NORTH.TXT: slot 2, at 0,5 byte 40: 2 of 5 sectors: cut"
 shows "  LOST0001.DAT: in no file: 3 sectors from 1,8 to 2,4, the first is record 3"
 shows "disk: 3 files in saved, 2 of them whole; 1 chain in no file"
 salvages 1 --json
-shows '"missing_sectors":0,"files":[{"file":"NORTH.TXT","origin":"directory","slot":2,"directory_sector":[0,5],"displacement":40,"name":"NORTH.TXT","stated_sectors":5,"sectors":[[1,3],[1,6]],"first_record":1,"is_whole":false,"faults":["cut"]}'
-shows '{"file":"LOST0001.DAT","origin":"lost","slot":null,"directory_sector":null,"displacement":null,"name":null,"stated_sectors":null,"sectors":[[1,8],[2,2],[2,4]],"first_record":3,"is_whole":false,"faults":[]}'
+shows '"missing_sectors":0,"files":[{"file":"NORTH.TXT","is_written":true,"origin":"directory","slot":2,"directory_sector":[0,5],"displacement":40,"name":"NORTH.TXT","stated_sectors":5,"sectors":[[1,3],[1,6]],"first_record":1,"is_whole":false,"faults":["cut"]}'
+shows '{"file":"LOST0001.DAT","is_written":true,"origin":"lost","slot":null,"directory_sector":null,"displacement":null,"name":null,"stated_sectors":null,"sectors":[[1,8],[2,2],[2,4]],"first_record":3,"is_whole":false,"faults":[]}'
 if command -v python3 >/dev/null; then
     python3 -c 'import json, sys; assert len(json.load(sys.stdin)["files"]) == 4' <out || fail "no JSON: $(cat out)"
 fi
@@ -148,7 +148,8 @@ fresh
 rm -rf saved
 mkdir saved
 ends 0 "" salvage disk saved
-refuses 3 "flexbox: saved: it is not empty; salvage needs a new folder or an empty one" salvage disk saved
+refuses 3 "; salvage needs a new folder or an empty one" salvage disk saved
+says "flexbox: saved: it is not empty, it has "
 refuses 3 "flexbox: disk: " salvage disk disk
 refuses 3 "flexbox: nowhere/saved: No such file" salvage disk nowhere/saved
 refuses 3 "nothing: No such file" salvage nothing other
@@ -167,7 +168,10 @@ if [ -n "$witness" ]; then
     witnessed WITNESS_FAIL=1 -- salvage disk saved
     [ "$status" = 3 ] || fail "status $status where a file can't be written"
     says "flexbox: saved/NORTH.TXT: not written: the new file could not be written beside it: No space left"
-    [ -z "$(ls -A saved)" ] || fail "left behind: $(ls -A saved)"
+    shows "  NORTH.TXT, NOT WRITTEN: slot 2, at 0,5 byte 40: 5 of 5 sectors: whole"
+    shows "disk: 2 files in saved, 2 of them whole; 0 chains in no file"
+    holds POWER.TXT SOUTH.TXT
+    rm -rf saved
     witnessed -- salvage disk saved
     uniq log | sed -n '4,9s/\.flexbox-[0-9]*-[0-9]*-[^ ]*\.new/NEW/; 4,9p' | tr '\n' ' ' >calls
     [ "$(cat calls)" = "open saved make 666 NEW write NEW sync NEW move NORTH.TXT sync saved " ] || fail "calls: $(cat log)"

@@ -74,7 +74,7 @@ patch $(($(slot 2) + 15)) 2 7
 tells 46 "a sector is in no chain, or in two" "sector 2,7 is held by NORTH.TXT .* and by POWER.TXT" 2-4 2-7
 
 shows "<li>NORTH.TXT: kept whole, 5 sectors; what stands where it shared a sector may be another&#39;s</li>"
-shows "Up to 1 sector of 1 file would be lost."
+shows "Would be lost: up to 1 sector of 1 file, and 1 written sector in no chain."
 shows "<code>flexbox repair disk</code>"
 
 # ---- what has no shape has no page

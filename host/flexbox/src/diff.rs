@@ -2,7 +2,11 @@
 
 use crate::check::{self, Check, Owner};
 use crate::raw;
-use flex::{Address, Diskette, Entry, Refusal, Shape, DATA, SECTOR, SLOT};
+use flex::{Address, Diskette, Entry, Name, Refusal, Shape, DATA, SECTOR, SLOT};
+use std::collections::HashMap;
+
+/// A file's name, and the how manieth of that name it is.
+type Key = (Name, usize);
 
 /// One of the two, with all that is compared of it.
 pub struct Side {
@@ -26,7 +30,7 @@ pub struct FileChange {
 #[derive(Debug, PartialEq, Eq)]
 pub struct Difference {
     pub files: Vec<FileChange>,
-    /// By number and by address; None where the two have not the same shape.
+    /// By number and by address; None where the two have not the same shape, of slots also where those of one can't be listed.
     pub slots: Option<Vec<usize>>,
     pub sectors: Option<Vec<Address>>,
     pub free_chain: bool,
@@ -57,9 +61,15 @@ impl Side {
         self.check.slots.iter().filter_map(|slot| Some((slot.number, slot.entry()?)))
     }
 
-    /// The first file of this name.
-    fn file(&self, name: &str) -> Option<(usize, &Entry)> {
-        self.files().find(|(_, entry)| entry.name.to_string() == name)
+    /// The files by the bytes of their names, since several may be shown alike, and the how manieth of its name each is.
+    fn by_name(&self) -> Vec<(Key, (usize, &Entry))> {
+        let mut met: HashMap<Name, usize> = HashMap::new();
+        let mut key = |name: Name| {
+            let count = met.entry(name).or_insert(0);
+            *count += 1;
+            (name, *count)
+        };
+        self.files().map(|(slot, entry)| (key(entry.name), (slot, entry))).collect()
     }
 
     /// The contents of a file, as far as its chain is right.
@@ -82,7 +92,7 @@ impl Difference {
         let is_one_shape = one.shape() == other.shape();
         Difference {
             files: files(one, other),
-            slots: is_one_shape.then(|| slots(one, other)),
+            slots: (is_one_shape && one.check.has_slots() && other.check.has_slots()).then(|| slots(one, other)),
             sectors: is_one_shape.then(|| sectors(one, other)),
             free_chain: one.free() != other.free(),
         }
@@ -99,13 +109,14 @@ fn files(one: &Side, other: &Side) -> Vec<FileChange> {
     if !one.check.has_slots() || !other.check.has_slots() {
         return Vec::new();
     }
-    let mut names: Vec<String> = one.files().map(|(_, entry)| entry.name.to_string()).collect();
-    names.extend(other.files().map(|(_, entry)| entry.name.to_string()).filter(|name| one.file(name).is_none()));
-    names.iter().filter_map(|name| file(one, other, name)).collect()
+    let (ones, others) = (one.by_name(), other.by_name());
+    let [of_one, of_other] = [&ones, &others].map(|files| files.iter().copied().collect::<HashMap<_, _>>());
+    let added = others.iter().filter(|(key, _)| !of_one.contains_key(key));
+    let keys = ones.iter().chain(added).map(|(key, _)| key);
+    keys.filter_map(|key| file(one, other, key.0, [of_one.get(key).copied(), of_other.get(key).copied()])).collect()
 }
 
-fn file(one: &Side, other: &Side, name: &str) -> Option<FileChange> {
-    let sides = [one.file(name), other.file(name)];
+fn file(one: &Side, other: &Side, name: Name, sides: [Option<(usize, &Entry)>; 2]) -> Option<FileChange> {
     let mut change = FileChange {
         name: name.to_string(),
         slots: sides.map(|side| side.map(|(slot, _)| slot)),
@@ -179,6 +190,27 @@ mod tests {
         let same = difference(&mut in_use(), &mut in_use());
         let none = Difference { files: vec![], slots: Some(vec![]), sectors: Some(vec![]), free_chain: false };
         assert_eq!((same.is_none(), same), (true, none));
+    }
+
+    /// Names that are shown alike, and files of one name.
+    #[test]
+    fn files_are_told_apart_by_their_bytes_and_order() {
+        for names in [[1, 2], [b'A', b'A']] {
+            let mut one = in_use().image().to_vec();
+            (one[1040], one[1064]) = (names[0], names[1]);
+            let mut other = one.clone();
+            other[offset(6, 1, 3) + 4] = 8;
+            let found = difference(&mut Diskette::new(one), &mut Diskette::new(other)).files;
+            assert_eq!((found.len(), found[0].slots, found[0].differs_from), (1, [Some(2); 2], Some(0)));
+        }
+    }
+
+    #[test]
+    fn slots_that_cant_be_listed_are_not_compared() {
+        let mut other = in_use().image().to_vec();
+        other[1025] = 4;
+        let found = difference(&mut in_use(), &mut Diskette::new(other));
+        assert_eq!((found.slots, found.sectors), (None, Some(vec![Address::new(0, 5)])));
     }
 
     #[test]

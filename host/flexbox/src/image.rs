@@ -1,9 +1,9 @@
 //! Image files: opened, locked and read to be looked at or changed.
 //!
-//! The lock is flock's, on the image file itself: shared to look, exclusive from before a change is read until after the new
-//! image is in place. Where somebody is asked before a change, that is done under the shared lock, and the exclusive one is taken then. A change renames a new file over the old one, so whoever waits opens the path anew for each try, and looks,
-//! once the lock is had, whether the path still leads to that file. Not everybody asks for the lock: so what was read is read again
-//! just before it is replaced.
+//! The lock is flock's, on the image file itself: shared to look, exclusive from before a change is read until after the new image is in
+//! place. Where somebody is asked before a change, that is done under the shared lock, and the exclusive one is taken then. A change
+//! renames a new file over the old one, so whoever waits opens the path anew for each try, and looks, once the lock is had, whether the
+//! path still leads to that file. Not everybody asks for the lock: so what was read is read again just before it is replaced.
 
 use crate::failure::{note, Failure};
 use crate::input;

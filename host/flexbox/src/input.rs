@@ -34,13 +34,17 @@ pub fn can_ask() -> bool {
     posix::is_terminal(&io::stdin())
 }
 
-/// Whether the answer to a question begins with a 'y'; no answer is none.
+/// Whether the answer to a question is y or yes; no answer is none.
 pub fn ask(question: &str) -> bool {
     let mut answer = String::new();
     // Where nobody can be asked, nobody answers.
     let _ = write!(io::stderr(), "{}", question);
     let _ = io::stdin().lock().read_line(&mut answer);
-    answer.trim_start().to_lowercase().starts_with('y')
+    is_yes(&answer)
+}
+
+fn is_yes(answer: &str) -> bool {
+    matches!(answer.trim().to_lowercase().as_str(), "y" | "yes")
 }
 
 pub fn file(path: &Path) -> Result<Vec<u8>, Failure> {
@@ -54,6 +58,12 @@ pub fn file(path: &Path) -> Result<Vec<u8>, Failure> {
 #[cfg(test)]
 mod tests {
     use super::*;
+
+    #[test]
+    fn yes_is_y_or_yes() {
+        assert!(["y\n", "Y", " yes \n", "YES\r\n"].iter().all(|answer| is_yes(answer)));
+        assert!(!["", "\n", "n", "yikes no", "yes, but", "ye", "no y"].iter().any(|answer| is_yes(answer)));
+    }
 
     #[test]
     fn no_more_is_read_than_a_diskette_holds_and_one_byte() {

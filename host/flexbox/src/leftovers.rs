@@ -32,8 +32,10 @@ fn named(path: &Path) -> &[u8] {
 pub fn beside(path: &Path) -> Vec<PathBuf> {
     let folder = crate::replace::folder(path);
     let files = fs::read_dir(folder).into_iter().flatten().flatten();
-    let mut left: Vec<PathBuf> =
-        files.filter(|file| is_left(&file.file_name(), path)).map(|file| file.path()).collect();
+    // A folder of such a name is none of ours.
+    let is_file = |file: &fs::DirEntry| file.file_type().map_or(false, |kind| kind.is_file());
+    let left = files.filter(|file| is_left(&file.file_name(), path) && is_file(file));
+    let mut left: Vec<PathBuf> = left.map(|file| file.path()).collect();
     left.sort();
     left
 }
@@ -85,6 +87,16 @@ mod tests {
         assert!(!is_left(OsStr::new(&running), path));
         assert!(is_left(&name(path, 3), path), "of a process that had our number");
         assert!(!is_left(OsStr::new("disk"), path) && !is_left(OsStr::new(".flexbox-disk.new"), path));
+    }
+
+    #[test]
+    fn a_folder_is_not_left() {
+        let folder = std::env::temp_dir().join(format!("flexbox-leftovers-{}", process::id()));
+        fs::create_dir_all(folder.join(".flexbox-4200000-0-disk.new")).unwrap();
+        fs::write(folder.join(".flexbox-4200000-1-disk.new"), b"").unwrap();
+        let left = beside(&folder.join("disk"));
+        fs::remove_dir_all(&folder).unwrap();
+        assert_eq!(left, [folder.join(".flexbox-4200000-1-disk.new")]);
     }
 
     #[test]

@@ -5,6 +5,7 @@ use crate::check::{Check, Owner, Unreached};
 use crate::commands::dropping::drop_file;
 use crate::raw;
 use flex::{Address, Diskette, Entry, Held, Name, Refusal, Slot, OWNER_DIRECTORY, OWNER_FREE};
+use loose::Loose;
 
 /// What is wrong, and what comes out.
 pub struct Plan {
@@ -20,6 +21,10 @@ pub struct Repaired {
     /// The sectors that are free then, and those of them that were in no chain.
     pub free: usize,
     pub found: usize,
+    /// Slots of the directory that hold no file, and lead to written sectors in no chain that no file leads to; so many are `loose`.
+    pub gone: Vec<Unreached>,
+    /// The sectors that can be a file's and are taken away: out of a file's chain, or out of no chain, and written.
+    taken: usize,
 }
 
 /// What becomes of a file.
@@ -35,8 +40,10 @@ pub struct Fate {
     pub next: Address,
     /// Who has that sector then, if it is a data sector.
     pub holder: Option<Owner>,
-    /// How many sectors behind what the slot states its chain leads over that no chain has. They can be read now, and are free then.
+    /// How many written sectors in no chain its chain leads over behind what the slot states. They can be read now, and are free then.
     pub behind: usize,
+    /// How many written sectors in no chain lead to the end that it states: most likely they were its own.
+    pub before_end: usize,
 }
 
 /// What a repair takes away.
@@ -44,6 +51,8 @@ pub struct Fate {
 pub struct Loss {
     pub files: usize,
     pub sectors: usize,
+    /// Written sectors in no chain beside those: nobody can say whose they are.
+    pub nobodys: usize,
 }
 
 /// How one who wants a file whole that would be cut can have it, as far as trying it on a copy tells.
@@ -55,23 +64,26 @@ pub struct WaysOut {
 }
 
 impl Plan {
-    /// Of a diskette that was checked.
-    pub fn of(check: Check, diskette: &Diskette) -> Plan {
-        let repaired = Repaired::of(&check, diskette);
+    /// Of a diskette that was checked, and of which these files were dropped before.
+    pub fn of(check: Check, diskette: &Diskette, dropped: &[Entry]) -> Plan {
+        let repaired = Repaired::of(&check, diskette, dropped);
         Plan { check, repaired }
     }
 }
 
 impl Repaired {
-    /// What the proved repair makes of a diskette that was checked, or why it refuses.
-    pub fn of(check: &Check, diskette: &Diskette) -> Result<Repaired, Refusal> {
+    /// What the proved repair makes of a diskette that was checked, or why it refuses. What leads to the files that were dropped before is
+    /// given up with them.
+    pub fn of(check: &Check, diskette: &Diskette, dropped: &[Entry]) -> Result<Repaired, Refusal> {
         let mut copy = diskette.clone();
         copy.repair()?;
-        Repaired::compared(check, diskette.image(), copy)
+        let mut loose = Loose::of(check, diskette.image());
+        dropped.iter().for_each(|entry| loose.give_up(entry));
+        Repaired::compared(check, diskette.image(), loose, copy)
     }
 
     /// The slots are where they were, so they are read there: asked for one by one, many take long.
-    fn compared(check: &Check, image: &[u8], diskette: Diskette) -> Result<Repaired, Refusal> {
+    fn compared(check: &Check, image: &[u8], mut loose: Loose, diskette: Diskette) -> Result<Repaired, Refusal> {
         let held = diskette.survey()?;
         let state = |slot: &Slot| raw::state(&raw::slot(diskette.image(), check.shape, slot.place));
         let after: Vec<Slot> = check
@@ -79,34 +91,37 @@ impl Repaired {
             .iter()
             .map(|slot| Slot { number: slot.number, place: slot.place, state: state(slot) })
             .collect();
-        let lost = lost(check);
-        let is_free = |number: u16| held.iter().any(|one| one.sector == number && one.owner == OWNER_FREE);
-        let found = lost.iter().filter(|&&number| is_free(number)).count();
+        let owner = |sector: usize| owner(&held, sector);
+        let in_no_chain = loose.written();
         let faults = [check.concerned(45), check.concerned(46)];
         let files = check.slots.iter().zip(&after);
-        let fates = files.filter_map(|(old, new)| fate(check, image, &held, &lost, old, new)).map(|fate| Fate {
+        let fates = files.filter_map(|(old, new)| fate(check, image, &owner, &mut loose, old, new)).map(|fate| Fate {
             is_right: !faults[0][fate.slot],
             is_shared: faults[1][fate.slot],
             ..fate
         });
+        let fates: Vec<Fate> = fates.collect();
         Ok(Repaired {
-            fates: fates.collect(),
+            taken: in_no_chain + pushed_out(check, &fates),
+            fates,
             free: held.iter().filter(|one| one.owner == OWNER_FREE).count(),
-            found,
+            found: lost(check).filter(|&number| owner(number) == Owner::Free).count(),
+            gone: gone(check, &mut loose),
             diskette,
         })
     }
 
     /// Files that lose something: nobody but the operator can say whether that may be.
     pub fn losing(&self) -> impl Iterator<Item = &Fate> {
-        self.fates.iter().filter(|fate| fate.is_cut() || fate.behind > 0)
+        self.fates.iter().filter(|fate| fate.is_cut() || fate.behind > 0 || fate.before_end > 0)
     }
 
     /// At most so much, with the files that the directory does not reach: a slot may state more sectors than the file ever had.
     pub fn loss(&self, check: &Check) -> Loss {
         let cut: usize = self.losing().map(|fate| fate.lost(check.shape.data_sectors())).sum();
-        let vanished: usize = vanishing(check).map(|file| file.loose).sum();
-        Loss { files: self.losing().count() + vanishing(check).count(), sectors: cut + vanished }
+        let files = self.losing().count() + vanishing(check).count() + self.gone.len();
+        let sectors = cut + vanishing(check).chain(&self.gone).map(|file| file.loose).sum::<usize>();
+        Loss { files, sectors, nobodys: self.taken.saturating_sub(sectors) }
     }
 
     /// Files that are rightly chained and would be cut all the same: an earlier one, or the directory, has their sectors.
@@ -121,22 +136,42 @@ pub fn vanishing(check: &Check) -> impl Iterator<Item = &Unreached> {
 }
 
 /// The numbers of the data sectors that no chain holds.
-fn lost(check: &Check) -> Vec<u16> {
+fn lost(check: &Check) -> impl Iterator<Item = usize> {
     let mut held = vec![false; check.shape.data_sectors()];
     for &address in check.chains.iter().flat_map(|(_, sectors)| sectors) {
         held[check.shape.number(address)] = true;
     }
-    (0..held.len()).filter(|&number| !held[number]).map(|number| number as u16).collect()
+    (0..held.len()).filter(move |&number| !held[number])
+}
+
+/// How many sectors are in a file's chain now and not then.
+fn pushed_out(check: &Check, fates: &[Fate]) -> usize {
+    let is_files = |owner: &Owner| matches!(owner, Owner::File(_));
+    let now = check.chains.iter().filter(|(owner, _)| is_files(owner)).map(|(_, sectors)| sectors.len());
+    now.sum::<usize>() - fates.iter().map(|fate| fate.kept).sum::<usize>()
+}
+
+/// The slots without a file that lead to loose sectors which neither a file nor one that the directory does not reach leads to.
+fn gone(check: &Check, loose: &mut Loose) -> Vec<Unreached> {
+    check.unreached.iter().for_each(|file| loose.give_up(&file.entry));
+    let taken = |file: &Unreached| Unreached { loose: loose.take_chain(&file.entry), ..file.clone() };
+    check.gone.iter().map(taken).filter(|file| file.loose > 0).collect()
 }
 
 /// All but whether it is right and shared, which is known of all files at once.
-fn fate(check: &Check, image: &[u8], held: &[Held], lost: &[u16], old: &Slot, new: &Slot) -> Option<Fate> {
+fn fate(
+    check: &Check,
+    image: &[u8],
+    owner: &impl Fn(usize) -> Owner,
+    loose: &mut Loose,
+    old: &Slot,
+    new: &Slot,
+) -> Option<Fate> {
     let (entry, after) = (old.entry()?, new.entry()?);
     let next = match after.sectors {
         0 => entry.start,
         _ => Address::at(image, check.shape.offset(after.end)),
     };
-    let holder = check.shape.is_data(next).then(|| owner(held, check.shape.number(next)));
     Some(Fate {
         slot: old.number,
         entry: entry.clone(),
@@ -144,24 +179,10 @@ fn fate(check: &Check, image: &[u8], held: &[Held], lost: &[u16], old: &Slot, ne
         is_right: false,
         is_shared: false,
         next,
-        holder,
-        behind: behind(check, image, lost, next),
+        holder: check.shape.is_data(next).then(|| owner(check.shape.number(next))),
+        behind: loose.take_from(next),
+        before_end: loose.take_to(entry.end),
     })
-}
-
-/// How many sectors a chain leads over from here on that are in no chain.
-fn behind(check: &Check, image: &[u8], lost: &[u16], from: Address) -> usize {
-    let mut met = Vec::new();
-    let mut at = from;
-    while check.shape.is_data(at) {
-        let number = check.shape.number(at) as u16;
-        if lost.binary_search(&number).is_err() || met.contains(&number) {
-            break;
-        }
-        met.push(number);
-        at = Address::at(image, check.shape.offset(at));
-    }
-    met.len()
 }
 
 fn owner(held: &[Held], sector: usize) -> Owner {
@@ -183,7 +204,7 @@ impl Fate {
 
     /// How many sectors it loses at most, on a diskette that has so many.
     pub fn lost(&self, data_sectors: usize) -> usize {
-        self.stated().min(data_sectors).saturating_sub(self.kept) + self.behind
+        self.stated().min(data_sectors).saturating_sub(self.kept).max(self.before_end) + self.behind
     }
 
     /// What can be done for this file before the diskette is repaired.
@@ -225,6 +246,7 @@ impl Fate {
     }
 }
 
+mod loose;
 pub mod words;
 
 #[cfg(test)]

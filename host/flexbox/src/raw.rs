@@ -34,6 +34,12 @@ pub fn record_number(image: &[u8], shape: Shape, sector: Address) -> u16 {
     u16::from_be_bytes([image[at], image[at + 1]])
 }
 
+/// Whether a byte behind the sector's link is not 0: a sector that a file has had is so, by its record number.
+pub fn is_written(image: &[u8], shape: Shape, sector: Address) -> bool {
+    let at = shape.offset(sector);
+    image[at + RECORD_NUMBER..at + SECTOR].iter().any(|&byte| byte != 0)
+}
+
 pub fn is_random(slot: &[u8]) -> bool {
     slot[RANDOM] != 0
 }

@@ -111,6 +111,11 @@ impl Words {
         Ok(Some(parsed))
     }
 
+    /// Whether the command has this option at all.
+    pub fn takes(&self, option: &str) -> bool {
+        self.command.option(option).is_some()
+    }
+
     pub fn has(&self, option: &str) -> bool {
         self.options.iter().any(|(name, _)| *name == option)
     }

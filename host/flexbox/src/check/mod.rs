@@ -47,6 +47,8 @@ pub struct Check {
     pub chains: Vec<(Owner, Vec<Address>)>,
     /// What looks like files in sectors of track 0 that the directory does not reach.
     pub unreached: Vec<Unreached>,
+    /// Slots of the directory that hold no file, and lead to sectors in no chain all the same.
+    pub gone: Vec<Unreached>,
 }
 
 /// Looks at the whole diskette. Refused is only what is no image of a diskette (41).
@@ -75,7 +77,8 @@ pub fn check(diskette: &mut Diskette) -> Result<Check, Refusal> {
         findings.extend(sectors::lost(shape, &owners));
     }
     let unreached = unreached::files(image, shape, &directory, &owners);
-    Ok(Check { shape, verdict, findings, slots, directory, chains, unreached })
+    let gone = unreached::gone(image, shape, &slots, &owners);
+    Ok(Check { shape, verdict, findings, slots, directory, chains, unreached, gone })
 }
 
 /// The directory's sectors as far as its links are right.

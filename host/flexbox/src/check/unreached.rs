@@ -4,7 +4,7 @@
 use super::chain::Chain;
 use super::sectors::Owner;
 use crate::raw;
-use flex::{Address, Entry, Place, Shape, State};
+use flex::{Address, Entry, Place, Shape, Slot, State, SLOT};
 use std::fmt;
 
 #[derive(Clone, Debug, PartialEq, Eq)]
@@ -34,13 +34,29 @@ pub fn files(image: &[u8], shape: Shape, directory: &[Address], owners: &[Vec<Ow
         State::Live(entry) if raw::looks_like_a_file(&entry, shape) => Some((place, entry)),
         _ => None,
     });
+    files.map(|(place, entry)| unreached(image, shape, owners, place, entry)).collect()
+}
+
+/// Slots of the directory that are deleted or were never used, though written sectors of their chains are in no chain. Those of a file that
+/// was deleted rightly are free or another's: so the first byte of such a slot is damaged, or the free chain.
+pub fn gone(image: &[u8], shape: Shape, slots: &[Slot], owners: &[Vec<Owner>]) -> Vec<Unreached> {
+    let empty = slots.iter().filter(|slot| slot.entry().is_none());
+    let stated = empty.map(|slot| (slot.place, nameless(raw::slot(image, shape, slot.place))));
+    let is_likely = |entry: &Entry| shape.is_data(entry.start) && raw::is_written(image, shape, entry.start);
+    let likely = stated.filter(|(_, entry)| is_likely(entry));
+    likely.map(|(place, entry)| unreached(image, shape, owners, place, entry)).filter(|file| file.loose > 0).collect()
+}
+
+/// What a slot says whose first byte is not the name's: that is shown as unknown.
+fn nameless(mut slot: [u8; SLOT]) -> Entry {
+    slot[0] = u8::MAX;
+    raw::entry(&slot)
+}
+
+/// It has no slot of the directory that holds a file, so no number.
+fn unreached(image: &[u8], shape: Shape, owners: &[Vec<Owner>], place: Place, entry: Entry) -> Unreached {
+    let walked = Chain::of_file(0, &entry).walk(image, shape);
     let is_loose = |&address: &Address| owners[shape.number(address)].is_empty();
-    files
-        .map(|(place, entry)| {
-            // It has no slot of the directory, so no number.
-            let walked = Chain::of_file(0, &entry).walk(image, shape);
-            let loose = walked.sectors.iter().filter(|&at| is_loose(at)).count();
-            Unreached { place, entry, loose }
-        })
-        .collect()
+    let loose = walked.sectors.iter().filter(|&at| is_loose(at)).count();
+    Unreached { place, entry, loose }
 }

@@ -32,6 +32,14 @@ pub fn shown(number: usize) -> String {
     format!("slot {}", number)
 }
 
+/// How it is told with a refusal.
+pub fn refused_slot(number: usize, refusal: Refusal) -> String {
+    match refusal {
+        Refusal::NotFound => format!("slot {}, which holds no file", number),
+        _ => shown(number),
+    }
+}
+
 pub fn get(diskette: &mut Diskette, number: usize) -> Result<Reading, Refusal> {
     // Only the copy in memory has the name that is lent.
     let mut copy = diskette.clone();
@@ -49,9 +57,20 @@ pub fn delete(diskette: &mut Diskette, number: usize) -> Result<(), Refusal> {
     diskette.put_slot(number, &old)
 }
 
+/// To its own name is refused as the service refuses it.
 pub fn rename(diskette: &mut Diskette, number: usize, new: &Name) -> Result<(), Refusal> {
-    let (name, _) = lend(diskette, number)?;
+    let (name, old) = lend(diskette, number)?;
+    if old[..NAME_BYTES] == *new.bytes() {
+        return Err(Refusal::Exists);
+    }
     diskette.rename(&name, new)
+}
+
+/// Whether the service renames the file of this slot, once it has a name of its own.
+pub fn can_rename(diskette: &Diskette, number: usize) -> bool {
+    let mut copy = diskette.clone();
+    let new = copy.slots().ok().and_then(|slots| unused(&slots, "NEW"));
+    new.map_or(false, |new| rename(&mut copy, number, &new).is_ok())
 }
 
 /// The name that the file of this slot has then, and its slot before. 4 where it holds no file.
@@ -59,13 +78,18 @@ fn lend(diskette: &mut Diskette, number: usize) -> Result<(Name, [u8; SLOT]), Re
     let slots = diskette.slots()?;
     slots.get(number - 1).and_then(Slot::entry).ok_or(Refusal::NotFound)?;
     let old = bytes(diskette, number)?;
-    let is_taken = |name: &Name| slots.iter().filter_map(Slot::entry).any(|entry| entry.name == *name);
-    let mut names = (0..).filter_map(|i| format!("LENT{}.TMP", i).parse().ok());
-    let name = names.find(|name| !is_taken(name)).ok_or(Refusal::NotFound)?;
+    let name = unused(&slots, "LENT").ok_or(Refusal::NotFound)?;
     let mut slot = old;
     slot[..NAME_BYTES].copy_from_slice(name.bytes());
     diskette.put_slot(number, &slot)?;
     Ok((name, old))
+}
+
+/// A legal name that begins so and that no file has.
+fn unused(slots: &[Slot], begin: &str) -> Option<Name> {
+    let is_taken = |name: &Name| slots.iter().filter_map(Slot::entry).any(|entry| entry.name == *name);
+    let mut names = (0..).filter_map(|i| format!("{}{}.TMP", begin, i).parse().ok());
+    names.find(|name| !is_taken(name))
 }
 
 /// Whatever the slot holds.

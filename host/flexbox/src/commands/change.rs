@@ -40,7 +40,8 @@ fn save_forced(
     let kept = image.save_keeping(old, diskette.image())?;
     let census = refusal.map_or("accepted".to_string(), |refusal| refusal.to_string());
     let disk = words.image().display();
-    note(&format!("{}: saved by --force; its census: {}; the old image is {}", disk, census, kept.display()));
+    let how = if words.has("--force") { "saved by --force" } else { "saved" };
+    note(&format!("{}: {}; its census: {}; the old image is {}", disk, how, census, kept.display()));
     Ok(())
 }
 
@@ -57,14 +58,25 @@ fn accept(words: &Words, diskette: &mut Diskette) -> Result<bool, Failure> {
     failure.say();
     say_where(words.image(), diskette);
     let name = words.image().display();
+    if words.has("--slot") && words.takes("--force") && has_twins_alone(diskette) {
+        note(&format!("{}: changed all the same: but for the names nothing is wrong", name));
+        return Ok(false);
+    }
     if words.has("--force") {
         note(&format!("{}: damaged, and changed all the same by --force: sound files may be lost", name));
         return Ok(false);
     }
-    note(&format!("{}: not changed, since that could destroy sound files; --force would change it", name));
+    let can_force = words.takes("--force") && !words.has("--slot");
+    let way_out = if can_force { "; --force would change it" } else { "" };
+    note(&format!("{}: not changed, since that could destroy sound files{}", name, way_out));
     let word = quoted(&words.image().to_string_lossy());
     note(&format!("flexbox repair --dry-run {} says what a repair would do", word));
     Err(Failure::Shown)
+}
+
+/// Whether files of one name are all that is wrong: then a slot can be renamed or deleted as on a sound diskette.
+fn has_twins_alone(diskette: &mut Diskette) -> bool {
+    check::check(diskette).map_or(false, |check| check.findings.iter().all(|finding| finding.number == 43))
 }
 
 /// Tells the places of the damage on standard error.
@@ -84,8 +96,10 @@ pub fn say_where(image: &Path, diskette: &mut Diskette) {
 pub fn delete(words: &Words) -> Result<(), Failure> {
     if let Some(number) = by_slot::number_to_change(words)? {
         words.expect_others(0..=0)?;
-        let what = by_slot::shown(number);
-        return change(words, |diskette| by_slot::delete(diskette, number).map_err(refused(words.image(), &what)));
+        return change(words, |diskette| {
+            let deleted = by_slot::delete(diskette, number);
+            deleted.map_err(|refusal| refused_with(words.image(), &by_slot::refused_slot(number, refusal), refusal))
+        });
     }
     words.expect_others(1..=1)?;
     let text = words.text(0)?;
@@ -104,8 +118,12 @@ pub fn rename(words: &Words) -> Result<(), Failure> {
     let new = words.text(others - 1)?;
     let to = super::typed(new)?;
     if let Some(number) = number {
-        let what = format!("{} to {}", by_slot::shown(number), told_new(new, &to));
-        return change(words, |diskette| by_slot::rename(diskette, number, &to).map_err(refused(words.image(), &what)));
+        return change(words, |diskette| {
+            by_slot::rename(diskette, number, &to).map_err(|refusal| {
+                let what = format!("{} to {}", by_slot::refused_slot(number, refusal), told_new(new, &to));
+                refused_with(words.image(), &what, refusal)
+            })
+        });
     }
     let old = words.text(0)?;
     let from = super::typed(old)?;

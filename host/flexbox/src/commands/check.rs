@@ -27,11 +27,6 @@ pub fn run(words: &Words) -> Result<(), Failure> {
     }
 }
 
-/// The last line of a report is all that is told of one of several images, with the files that the directory has lost.
-fn line(words: &Words, check: &Check, _: &[String]) -> String {
-    format!("{}{}\n", last_line(words, check).trim_end(), not_reached(check))
-}
-
 fn one(words: &Words, as_text: impl Fn(&Words, &Check, &[String]) -> String) -> Result<(), Failure> {
     let (check, left) = match look_at(words) {
         Ok(seen) => seen,
@@ -73,7 +68,7 @@ fn as_text(words: &Words, check: &Check, left: &[String]) -> String {
             text.push_str("  the slots can't be listed: names, files and their sectors are not checked\n");
         }
     }
-    text.push_str(&unreached(check));
+    text.push_str(&(unreached(check) + &gone(check)));
     for name in left {
         let _ = writeln!(text, "  left by a flexbox that is gone: {}; the next change of the image removes it", name);
     }
@@ -81,10 +76,29 @@ fn as_text(words: &Words, check: &Check, left: &[String]) -> String {
     text
 }
 
+/// All that is told of one of several images: the last line of its report, the files that the directory has lost, and how much else there is.
+fn line(words: &Words, check: &Check, left: &[String]) -> String {
+    let mut line = last_line(words, check).trim_end().to_string() + &not_reached(check);
+    let counts = [
+        (check.gone.len(), "deleted or damaged slot", "with sectors in no chain"),
+        (left.len(), "file", "left by a flexbox that is gone"),
+    ];
+    for (count, what, how) in counts.into_iter().filter(|row| row.0 > 0) {
+        let _ = write!(line, "; {} {}", plural(count, what), how);
+    }
+    line + "\n"
+}
+
 /// The files that the directory has lost, a line each.
 pub fn unreached(check: &Check) -> String {
     let line = |file: &Unreached| format!("  not reached by the directory: {}\n", file);
     check.unreached.iter().map(line).collect()
+}
+
+/// The slots without a file that lead to sectors in no chain, a line each.
+pub fn gone(check: &Check) -> String {
+    let line = |file: &Unreached| format!("  of a deleted or damaged slot: {}\n", file);
+    check.gone.iter().map(line).collect()
 }
 
 pub fn last_line(words: &Words, check: &Check) -> String {

@@ -67,7 +67,8 @@ fn printed(command: &str, image: Vec<u8>) -> Option<String> {
     match command {
         "salvage" => {
             let found = Salvage::of(diskette.image(), shape, false);
-            Some(salvage::as_json(&words, &found, &vec![String::new(); found.files.len()], 0))
+            let saved = |_| salvage::Saved { name: String::new(), failure: None };
+            Some(salvage::as_json(&words, &found, &found.files.iter().map(saved).collect::<Vec<_>>(), 0))
         }
         "diff" => {
             let sides = [&mut diskette, &mut Diskette::new(in_use())].map(|side| Side::of(side).unwrap());

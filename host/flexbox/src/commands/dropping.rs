@@ -2,13 +2,13 @@
 //! and the repair finds their sectors: a delete itself may refuse a damaged chain, or hang another file's sectors behind the free chain.
 
 use crate::raw;
-use flex::{Diskette, Name, Refusal, Shape};
+use flex::{Diskette, Entry, Name, Refusal, Shape};
 
 /// The first byte of a deleted slot.
 const MARK: u8 = 255;
 
-/// Marks the slot of the first file of this name, and gives its number. Protection is looked at as a delete does.
-pub fn drop_file(diskette: &mut Diskette, name: &Name) -> Result<usize, Refusal> {
+/// Marks the slot of the first file of this name, and gives what it stated. Protection is looked at as a delete does.
+pub fn drop_file(diskette: &mut Diskette, name: &Name) -> Result<Entry, Refusal> {
     if !raw::is_legal(name) {
         return Err(Refusal::BadName);
     }
@@ -25,7 +25,7 @@ pub fn drop_file(diskette: &mut Diskette, name: &Name) -> Result<usize, Refusal>
     let mut bytes = raw::slot(diskette.image(), shape, slot.place);
     bytes[0] = MARK;
     diskette.put_slot(slot.number, &bytes)?;
-    Ok(slot.number)
+    Ok(entry.clone())
 }
 
 #[cfg(test)]

@@ -45,11 +45,13 @@ pub fn make(image: &Path, wanted: &Wanted, save: impl FnOnce(&[u8]) -> Saved) ->
         diskette.image().len(),
         free
     );
-    if let Some(kept) = kept {
-        lines.push_str(&format!("{}: the old image is {}\n", image.display(), kept.display()));
+    let kept = kept.map_or(String::new(), |kept| format!("the old image is {}", kept.display()));
+    if !kept.is_empty() {
+        lines.push_str(&format!("{}: {}\n", image.display(), kept));
     }
+    let and = if kept.is_empty() { "" } else { ", and " };
     try_print(lines.as_bytes())
-        .map_err(|problem| Failure::File(format!("{}: formatted, but {}", image.display(), problem)))
+        .map_err(|problem| Failure::File(format!("{}: formatted{}{}, but {}", image.display(), and, kept, problem)))
 }
 
 const NOT_MADE: &str = "the blank diskette, which is therefore not made";

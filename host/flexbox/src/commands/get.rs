@@ -58,7 +58,7 @@ fn wanted(words: &Words) -> Result<Vec<Piece>, Failure> {
 
 fn unread(words: &Words, diskette: &mut Diskette, piece: &Piece, refusal: Refusal) -> Failure {
     let what = match piece.slot {
-        Some(_) => piece.shown.clone(),
+        Some(number) => by_slot::refused_slot(number, refusal),
         None => told_name(&piece.shown, &piece.name, refusal, diskette),
     };
     refused_with(words.image(), &what, refusal)
@@ -140,7 +140,7 @@ fn look_at_places(words: &Words, pieces: &[Piece], image: &Metadata) -> Result<(
     Ok(())
 }
 
-/// A file that is there stays unless it is to be replaced, and a read-only one then, too; the image itself is never written to, and a
+/// A file that is there stays unless it is to be replaced, and one that is read-only or has several names then, too; the image itself is never written to, and a
 /// folder can't be.
 fn unfit(path: &Path, replace: bool, image: &Metadata) -> Option<&'static str> {
     match fs::metadata(path) {
@@ -148,6 +148,9 @@ fn unfit(path: &Path, replace: bool, image: &Metadata) -> Option<&'static str> {
         Ok(there) if there.is_dir() => Some("this is a folder"),
         Ok(there) if replace && there.is_file() && there.mode() & 0o222 == 0 => {
             Some("it has no write permission; not replaced")
+        }
+        Ok(there) if replace && there.is_file() && there.nlink() > 1 => {
+            Some("it has several hard links, and its other names would keep the old bytes; not replaced")
         }
         Ok(_) if replace => None,
         Ok(there) => Some(way_out(&there)),

@@ -2,17 +2,18 @@
 //!
 //! Exit status: 0 nothing was wrong, and nothing is written; 1 repaired; 2 not repaired, with the reason.
 
+use super::by_slot;
 use super::check as report;
 use super::dropping::drop_file;
-use super::{full, plural, print, told_name, try_print, typed, wrong_length};
-use crate::check::{self, file, Check, Owner};
+use super::{full, hint, plural, print, try_print, typed, with_extension, wrong_length};
+use crate::check::{self, file, Check, Owner, Unreached};
 use crate::failure::Failure;
 use crate::image::Image;
 use crate::input;
-use crate::plan::words::{outcome, taker};
-use crate::plan::{vanishing, Fate, Plan, Repaired};
+use crate::plan::words::{lost, of_nobody, outcome, taker};
+use crate::plan::{vanishing, Fate, Loss, Plan, Repaired};
 use crate::words::{quoted, text, Words};
-use flex::{Diskette, Refusal};
+use flex::{Diskette, Entry, Refusal};
 use std::fmt::Write;
 
 pub fn run(words: &Words) -> Result<(), Failure> {
@@ -28,13 +29,16 @@ pub fn run(words: &Words) -> Result<(), Failure> {
     if found.verdict.is_ok() {
         return nothing_wrong(words);
     }
-    let dropped = drop_files(words, &mut diskette)?;
+    let (dropped, files) = drop_files(words, &mut diskette)?;
     let check = match words.has("--drop") {
         true => check::check(&mut diskette).map_err(|refusal| unrepairable(words, refusal, ""))?,
         false => found,
     };
-    let plan = Plan::of(check, &diskette);
-    let repaired = plan.repaired.as_ref().map_err(|&refusal| unrepairable(words, refusal, &reason(&plan, refusal)))?;
+    let plan = Plan::of(check, &diskette, &files);
+    let repaired = plan
+        .repaired
+        .as_ref()
+        .map_err(|&refusal| unrepairable(words, refusal, &reason(words, &plan, refusal, &diskette)))?;
     print((dropped + &told(words, &plan, repaired, diskette.image())).as_bytes())?;
     if words.has("--dry-run") {
         print(b"a dry run: nothing is written\n")?;
@@ -50,7 +54,7 @@ fn told_first(words: &Words, found: &Check) -> String {
     let line = report::last_line(words, found);
     match found.verdict {
         Ok(()) => line,
-        Err(_) => line + &findings(found) + &report::unreached(found),
+        Err(_) => line + &findings(found) + &report::unreached(found) + &report::gone(found),
     }
 }
 
@@ -66,18 +70,20 @@ fn nothing_wrong(words: &Words) -> Result<(), Failure> {
 }
 
 /// The files that are given up, each told in a line.
-fn drop_files(words: &Words, diskette: &mut Diskette) -> Result<String, Failure> {
-    let mut lines = String::new();
+fn drop_files(words: &Words, diskette: &mut Diskette) -> Result<(String, Vec<Entry>), Failure> {
+    let (mut lines, mut files) = (String::new(), Vec::new());
     for word in words.values("--drop") {
         let typed_name = text(word)?;
         let name = full(&typed(typed_name)?);
-        drop_file(diskette, &name).map_err(|refusal| {
-            let (disk, told) = (words.image().display(), told_name(typed_name, &name, refusal, diskette));
-            Failure::Unrepaired(format!("{}: not changed, since {} can't be dropped: {}", disk, told, refusal))
+        let file = drop_file(diskette, &name).map_err(|refusal| {
+            let (disk, hint) = (words.image().display(), hint(&name, refusal, diskette));
+            let told = format!("{} can't be dropped: {}{}", with_extension(typed_name, &name), refusal, hint);
+            Failure::Unrepaired(format!("{}: not changed, since {}", disk, told))
         })?;
         let _ = writeln!(lines, "{} is dropped first", name);
+        files.push(file);
     }
-    Ok(lines)
+    Ok((lines, files))
 }
 
 /// Once it is saved, a line that can't be printed must not hide that.
@@ -101,12 +107,31 @@ fn unrepairable(words: &Words, refusal: Refusal, why: &str) -> Failure {
 }
 
 /// What one who reads the refusal needs to know of it.
-fn reason(plan: &Plan, refusal: Refusal) -> String {
+fn reason(words: &Words, plan: &Plan, refusal: Refusal, diskette: &Diskette) -> String {
     let first = plan.check.findings.iter().find(|finding| finding.number == refusal.number());
     let what = first.map_or(String::new(), |finding| finding.to_string());
     match refusal {
-        Refusal::CensusNames => format!("{}; rename --force gives the first of them another", what),
+        Refusal::CensusNames => what + &names_way_out(words, &plan.check, diskette),
         _ => what,
+    }
+}
+
+/// How one of two files of one name gets another, or is given up, where trying it on a copy works.
+fn names_way_out(words: &Words, check: &Check, diskette: &Diskette) -> String {
+    let disk = quoted(&words.image().to_string_lossy());
+    let twins = check.findings.iter().filter(|finding| finding.number == 43).flat_map(|finding| &finding.slots);
+    let twins: Vec<usize> = twins.copied().collect();
+    let names_alone = check.findings.iter().all(|finding| finding.number == 43);
+    let can_rename = |&&slot: &&usize| by_slot::can_rename(diskette, slot);
+    if let Some(slot) = twins.iter().find(can_rename).filter(|_| names_alone) {
+        return format!("; flexbox rename --slot {} {} NEW.EXT gives one of them another", slot, disk);
+    }
+    let name = twins.first().and_then(|&slot| check.slots[slot - 1].entry()).map(|entry| entry.name);
+    match name {
+        Some(name) if drop_file(&mut diskette.clone(), &name).is_ok() => {
+            format!("; flexbox rename --force {} {} NEW.EXT gives the first of them another", disk, name)
+        }
+        _ => format!("; flexbox salvage {} FOLDER saves both", disk),
     }
 }
 
@@ -128,9 +153,8 @@ fn told(words: &Words, plan: &Plan, repaired: &Repaired, image: &[u8]) -> String
         }
     };
     let _ = writeln!(text, "  free: {}{}", plural(repaired.free, "sector"), found);
-    let loss = repaired.loss(&plan.check);
-    if loss.files > 0 {
-        let _ = writeln!(text, "  lost: up to {} of {}", plural(loss.sectors, "sector"), plural(loss.files, "file"));
+    if let Some(lost) = lost(&repaired.loss(&plan.check)) {
+        let _ = writeln!(text, "  lost: {}", lost);
     }
     let told = if plan.check.slots.len() > MANY_SLOTS { 1 } else { NAMED };
     for fate in repaired.wronged().take(told) {
@@ -169,12 +193,13 @@ fn wronged(words: &Words, plan: &Plan, fate: &Fate, image: &[u8]) -> String {
     text
 }
 
-/// Where a file would lose something, somebody has to say that it may.
+/// Where something would be lost that can be a file's, somebody has to say that it may.
 fn agree(words: &Words, plan: &Plan, repaired: &Repaired) -> Result<(), Failure> {
-    if words.has("--yes") || repaired.loss(&plan.check).files == 0 {
+    let loss = repaired.loss(&plan.check);
+    if words.has("--yes") || (loss.files, loss.nobodys) == (0, 0) {
         return Ok(());
     }
-    let (disk, lost) = (words.image().display(), would_be_lost(plan, repaired));
+    let (disk, lost) = (words.image().display(), would_be_lost(plan, repaired, &loss));
     if !input::can_ask() {
         let why = "standard input is no terminal to ask at; --yes repairs it all the same";
         return Err(Failure::Unrepaired(format!("{}: not changed, since {}; {}", disk, lost, why)));
@@ -191,24 +216,40 @@ const NAMED: usize = 8;
 const MANY_SLOTS: usize = 2_000;
 
 /// What is lost, counted, and by whom: what was printed of it may have gone to a file, where the one who is asked does not see it.
-fn would_be_lost(plan: &Plan, repaired: &Repaired) -> String {
-    let loss = repaired.loss(&plan.check);
-    let cut = repaired.losing().map(|fate| losing(plan, fate));
-    let vanished = vanishing(&plan.check).map(|file| {
-        format!("{} (not reached by the directory, {} in no chain)", file.entry.name, plural(file.loose, "sector"))
-    });
-    let mut files: Vec<String> = cut.chain(vanished).take(NAMED).collect();
-    if loss.files > NAMED {
-        files.push(format!("{} more", loss.files - NAMED));
-    }
+fn would_be_lost(plan: &Plan, repaired: &Repaired, loss: &Loss) -> String {
+    let nobodys = || format!("{} would be free, which may be a file's", of_nobody(loss.nobodys));
     let (count, sectors) = (plural(loss.files, "file"), plural(loss.sectors, "sector"));
-    format!("{} would lose up to {}: {}", count, sectors, files.join(", "))
+    let of_files = || format!("{} would lose up to {}: {}", count, sectors, names(plan, repaired, loss.files));
+    match (loss.files, loss.nobodys) {
+        (0, _) => nobodys(),
+        (_, 0) => of_files(),
+        _ => format!("{}; and {}", of_files(), nobodys()),
+    }
+}
+
+/// The first of the files that lose something.
+fn names(plan: &Plan, repaired: &Repaired, count: usize) -> String {
+    let cut = repaired.losing().map(|fate| losing(plan, fate));
+    let in_no_chain = |file: &Unreached| format!("{} in no chain", plural(file.loose, "sector"));
+    let vanished = vanishing(&plan.check)
+        .map(|file| format!("{} (not reached by the directory, {})", file.entry.name, in_no_chain(file)));
+    let gone = repaired.gone.iter().map(|file| {
+        format!("{} (of the deleted or damaged slot at {}, {})", file.entry.name, file.place, in_no_chain(file))
+    });
+    let mut files: Vec<String> = cut.chain(vanished).chain(gone).take(NAMED).collect();
+    if count > NAMED {
+        files.push(format!("{} more", count - NAMED));
+    }
+    files.join(", ")
 }
 
 /// "NORTH.TXT (5 to 2 sectors)", and for whom where the chain of the one that is cut is right.
 fn losing(plan: &Plan, fate: &Fate) -> String {
     let name = fate.entry.name;
     match fate.is_cut() {
+        false if fate.before_end > 0 => {
+            format!("{} ({} on the way to its stated end)", name, plural(fate.lost(0), "sector"))
+        }
         false => format!("{} ({} behind its stated size)", name, plural(fate.behind, "sector")),
         true if fate.is_right => {
             format!("{} ({} to {}, for {})", name, fate.stated(), plural(fate.kept, "sector"), taker(&plan.check, fate))

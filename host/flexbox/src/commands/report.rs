@@ -19,6 +19,6 @@ pub fn run(words: &Words) -> Result<(), Failure> {
     if check.verdict.is_ok() {
         return print(page(&subject).as_bytes());
     }
-    let repaired = Repaired::of(&check, &diskette);
+    let repaired = Repaired::of(&check, &diskette, &[]);
     print(page(&Subject { repaired: Some(&repaired), ..subject }).as_bytes())
 }

@@ -12,25 +12,48 @@ use flex::{Address, Name, Shape, LARGEST_IMAGE};
 use std::collections::HashSet;
 use std::fmt::Write;
 use std::fs;
+use std::io;
 use std::path::Path;
 
-/// Status 1 where something is not whole, or in no file: what could be read is given, but not as if it were all.
+/// A file in the folder, or why it is not there.
+pub struct Saved {
+    pub name: String,
+    pub failure: Option<String>,
+}
+
+/// Status 1 where something is not whole, or in no file: what could be read is given, but not as if it were all. A file that can't be
+/// written, status 3, does not keep the others from being saved and listed.
 pub fn run(words: &Words) -> Result<(), Failure> {
     let folder = Path::new(&words.others()[0]);
     let bytes = Image::look(words.image(), words.wait())?.read()?;
     let salvage = Salvage::of(&bytes, shape(words, &bytes)?, words.has("--deleted"));
     let names = names(&salvage.files);
     make_folder(folder)?;
-    for (file, name) in salvage.files.iter().zip(&names) {
-        write_file(&folder.join(name), None, &salvage.bytes(file)).map_err(Failure::File)?;
-    }
+    let save = |(file, name): (&Found, String)| Saved {
+        failure: write_file(&folder.join(&name), None, &salvage.bytes(file)).err(),
+        name,
+    };
+    let saved: Vec<Saved> = salvage.files.iter().zip(names).map(save).collect();
     match words.has("--json") {
-        true => print_json(&as_json(words, &salvage, &names, bytes.len()))?,
-        false => print(as_text(words, &salvage, &names, bytes.len()).as_bytes())?,
+        true => print_json(&as_json(words, &salvage, &saved, bytes.len()))?,
+        false => print(as_text(words, &salvage, &saved, bytes.len()).as_bytes())?,
     }
+    unwritten(&saved)?;
     match salvage.missing == 0 && salvage.files.iter().all(Found::is_whole) {
         true => Ok(()),
         false => Err(Failure::Shown),
+    }
+}
+
+/// Why the first of them is not there, and how many others are not.
+fn unwritten(saved: &[Saved]) -> Result<(), Failure> {
+    let failures: Vec<&String> = saved.iter().filter_map(|file| file.failure.as_ref()).collect();
+    match failures.as_slice() {
+        [] => Ok(()),
+        [only] => Err(Failure::File(only.to_string())),
+        [first, others @ ..] => {
+            Err(Failure::File(format!("{}; {} more not written", first, plural(others.len(), "file"))))
+        }
     }
 }
 
@@ -71,14 +94,21 @@ fn make_folder(folder: &Path) -> Result<(), Failure> {
     match fs::read_dir(folder) {
         Ok(mut files) => match files.next() {
             None => Ok(()),
-            Some(_) => Err(failed("it is not empty; salvage needs a new folder or an empty one".to_string())),
+            Some(file) => {
+                let name =
+                    file.map_or_else(|error| error.to_string(), |file| file.file_name().to_string_lossy().into_owned());
+                Err(failed(format!("it is not empty, it has {}; salvage needs a new folder or an empty one", name)))
+            }
         },
-        Err(_) => fs::create_dir(folder).map_err(|error| failed(error.to_string())),
+        Err(error) if error.kind() == io::ErrorKind::NotFound => {
+            fs::create_dir(folder).map_err(|error| failed(error.to_string()))
+        }
+        Err(error) => Err(failed(error.to_string())),
     }
 }
 
 /// What each file is called in the folder: as on the diskette, with _ for what is no letter, digit or hyphen, and a number behind it where
-/// the name is taken; a lost chain LOST0001.DAT and on.
+/// the name is taken, in large or small letters, since some file systems do not tell them apart; a lost chain LOST0001.DAT and on.
 fn names(files: &[Found]) -> Vec<String> {
     let mut taken = HashSet::new();
     let mut lost = 0;
@@ -91,7 +121,7 @@ fn names(files: &[Found]) -> Vec<String> {
             }
         };
         let numbered = |number: usize| if number == 1 { plain.clone() } else { format!("{}-{}", plain, number) };
-        (1..).map(numbered).find(|name| taken.insert(name.clone())).unwrap_or_default()
+        (1..).map(numbered).find(|name| taken.insert(name.to_lowercase())).unwrap_or_default()
     };
     files.iter().map(&mut name).collect()
 }
@@ -109,18 +139,20 @@ fn safe(name: &Name) -> String {
     }
 }
 
-fn as_text(words: &Words, salvage: &Salvage, names: &[String], length: usize) -> String {
+fn as_text(words: &Words, salvage: &Salvage, saved: &[Saved], length: usize) -> String {
     let mut text = told_length(salvage, length);
-    for (file, name) in salvage.files.iter().zip(names) {
-        let _ = writeln!(text, "  {}: {}", name, line(salvage, file));
+    for (file, Saved { name, failure }) in salvage.files.iter().zip(saved) {
+        let missing = if failure.is_none() { "" } else { ", NOT WRITTEN" };
+        let _ = writeln!(text, "  {}{}: {}", name, missing, line(salvage, file));
     }
-    let whole = salvage.files.iter().filter(|file| file.is_whole()).count();
-    let lost = salvage.files.iter().filter(|file| file.origin == Origin::Lost).count();
+    let there = || salvage.files.iter().zip(saved).filter(|(_, saved)| saved.failure.is_none()).map(|(file, _)| file);
+    let whole = there().filter(|file| file.is_whole()).count();
+    let lost = there().filter(|file| file.origin == Origin::Lost).count();
     let _ = writeln!(
         text,
         "{}: {} in {}, {} of them whole; {} in no file",
         words.image().display(),
-        plural(salvage.files.len() - lost, "file"),
+        plural(there().count() - lost, "file"),
         Path::new(&words.others()[0]).display(),
         whole,
         plural(lost, "chain")
@@ -184,8 +216,8 @@ fn lost_line(salvage: &Salvage, file: &Found) -> String {
     format!("in no file: {} from {} to {}, the first is record {}{}", size, first, last, record, missing)
 }
 
-pub fn as_json(words: &Words, salvage: &Salvage, names: &[String], length: usize) -> String {
-    let files = salvage.files.iter().zip(names).map(|(file, name)| file_as_json(salvage, file, name));
+pub fn as_json(words: &Words, salvage: &Salvage, saved: &[Saved], length: usize) -> String {
+    let files = salvage.files.iter().zip(saved).map(|(file, saved)| file_as_json(salvage, file, saved));
     json::Object::new()
         .with_text("image", &words.image().to_string_lossy())
         .with_text("folder", &words.others()[0].to_string_lossy())
@@ -197,7 +229,7 @@ pub fn as_json(words: &Words, salvage: &Salvage, names: &[String], length: usize
         .end()
 }
 
-fn file_as_json(salvage: &Salvage, file: &Found, name: &str) -> String {
+fn file_as_json(salvage: &Salvage, file: &Found, saved: &Saved) -> String {
     let (origin, slot) = match file.origin {
         Origin::Directory(number) => ("directory", Some(number)),
         Origin::Unreached => ("unreached", None),
@@ -207,7 +239,8 @@ fn file_as_json(salvage: &Salvage, file: &Found, name: &str) -> String {
     let entry = file.entry();
     let place = file.slot.as_ref().map(|(place, _)| place);
     json::Object::new()
-        .with_text("file", name)
+        .with_text("file", &saved.name)
+        .with("is_written", saved.failure.is_none())
         .with_text("origin", origin)
         .with("slot", json::number(slot))
         .with("directory_sector", place.map_or("null".to_string(), |place| json::address(place.sector)))
@@ -243,6 +276,7 @@ mod tests {
         let files = [Some("A.TXT"), Some("LOST0001.DAT"), Some("A.TXT"), None, Some("A.TXT"), None].map(file);
         let expected = ["A.TXT", "LOST0001.DAT", "A.TXT-2", "LOST0001.DAT-2", "A.TXT-3", "LOST0002.DAT"];
         assert_eq!(names(&files), expected);
+        assert_eq!(names(&[Some("A.TXT"), Some("a.TXT")].map(file)), ["A.TXT", "a.TXT-2"]);
     }
 
     #[test]

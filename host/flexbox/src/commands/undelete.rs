@@ -22,10 +22,15 @@ struct Deleted {
     slot: [u8; SLOT],
     /// Its sectors in their order, or why it can't be brought back.
     sectors: Result<Vec<Address>, String>,
+    /// As many of its sectors from the first on as may still hold its bytes.
+    had: Vec<Address>,
 }
 
 pub fn run(words: &Words) -> Result<(), Failure> {
     match words.others() {
+        [] if words.has("--slot") => {
+            Err(words.misused("--slot needs a name, whose first letter the delete has overwritten"))
+        }
         [] => list(words),
         _ => bring_back(words),
     }
@@ -71,16 +76,26 @@ fn bring_back(words: &Words) -> Result<(), Failure> {
 /// The one deleted slot that has this name but for the first letter, which the delete has overwritten.
 fn chosen(words: &Words, all: Vec<Deleted>, name: &Name, wanted: Option<u16>) -> Result<Deleted, Failure> {
     let is_wanted = |file: &Deleted| wanted.map_or(true, |number| file.number == number as usize);
+    let is_there = all.iter().any(is_wanted);
     let fits = |file: &Deleted| file.slot[1..name.bytes().len()] == name.bytes()[1..];
     let mut fitting: Vec<Deleted> = all.into_iter().filter(|file| is_wanted(file) && fits(file)).collect();
     match (fitting.pop(), fitting.is_empty()) {
         (Some(file), true) => Ok(file),
-        (None, _) => Err(told(words, &name.to_string(), "no deleted slot has this name but for the first letter")),
+        (None, _) => Err(told(words, &name.to_string(), &none_fits(is_there, wanted))),
         (Some(last), false) => {
             let numbers: Vec<String> = fitting.iter().chain([&last]).map(|file| file.number.to_string()).collect();
             let why = format!("several deleted slots have this name: {}; --slot says which", numbers.join(", "));
             Err(told(words, &name.to_string(), &why))
         }
+    }
+}
+
+/// Why there is none to choose.
+fn none_fits(is_there: bool, wanted: Option<u16>) -> String {
+    match wanted {
+        Some(number) if !is_there => format!("slot {} is no deleted slot of the directory", number),
+        Some(number) => format!("the deleted slot {} has not this name but for the first letter", number),
+        None => "no deleted slot has this name but for the first letter".to_string(),
     }
 }
 
@@ -103,9 +118,37 @@ fn deleted(diskette: &mut Diskette) -> Result<Vec<Deleted>, Refusal> {
     let free = Chain::free(image).walk(image, shape).sectors;
     let one = |slot: &Slot| {
         let bytes = raw::slot(image, shape, slot.place);
-        Deleted { number: slot.number, slot: bytes, sectors: sectors(image, shape, &free, &bytes) }
+        let had = had(image, shape, &free, &bytes);
+        Deleted { number: slot.number, slot: bytes, sectors: sectors(image, shape, &free, &bytes), had }
     };
-    Ok(slots.iter().filter(|slot| slot.state == State::Deleted).map(one).collect())
+    let mut all: Vec<Deleted> = slots.iter().filter(|slot| slot.state == State::Deleted).map(one).collect();
+    refuse_common(shape, &mut all);
+    Ok(all)
+}
+
+/// The free sectors that a deleted slot leads to, with record numbers in order: as many from the first on as there are.
+fn had(image: &[u8], shape: Shape, free: &[Address], slot: &[u8; SLOT]) -> Vec<Address> {
+    let walked = Chain::of_file(0, &raw::entry(slot)).walk(image, shape).sectors;
+    let is_in_order =
+        |(i, at): &(usize, Address)| raw::is_random(slot) || raw::record_number(image, shape, *at) as usize == i + 1;
+    let own = walked.into_iter().enumerate().take_while(|one| free.contains(&one.1) && is_in_order(one));
+    own.map(|(_, at)| at).collect()
+}
+
+/// Where several deleted files had a sector, nothing tells whose bytes stand in it: the last of them has overwritten the others.
+fn refuse_common(shape: Shape, all: &mut [Deleted]) {
+    let mut had = vec![Vec::new(); shape.data_sectors()];
+    for file in all.iter() {
+        file.had.iter().for_each(|&at| had[shape.number(at)].push(file.number));
+    }
+    for file in all {
+        let number = file.number;
+        let other = |at: &Address| had[shape.number(*at)].iter().copied().find(|&other| other != number);
+        let common = file.sectors.iter().flatten().find_map(|at| Some((*at, other(at)?)));
+        if let Some((at, other)) = common {
+            file.sectors = Err(format!("the deleted file of slot {} had its sector {}, too", other, at));
+        }
+    }
 }
 
 /// The file's sectors by its links, all of them free and with record numbers in order.
@@ -182,6 +225,28 @@ fn sector(diskette: &mut Diskette, at: Address) -> Result<[u8; SECTOR], Refusal>
 mod tests {
     use super::*;
     use diskettes::Numbers;
+
+    /// B is deleted, then A, and X takes B's sector and A's slot: whose bytes stand there is not known.
+    #[test]
+    fn a_sector_that_two_deleted_files_had_is_nobodys() {
+        let mut diskette = Diskette::new(diskettes::blank(1, 5));
+        let put = |diskette: &mut Diskette, name: &str, bytes: usize| {
+            diskette.put(&name.parse().unwrap(), &vec![name.as_bytes()[0]; bytes], [1, 2, 3]).unwrap();
+        };
+        put(&mut diskette, "A", 4);
+        put(&mut diskette, "B", 4);
+        put(&mut diskette, "C", 700);
+        diskette.delete(&"B".parse().unwrap()).unwrap();
+        diskette.delete(&"A".parse().unwrap()).unwrap();
+        let can = |diskette: &mut Diskette| {
+            let all = deleted(diskette).unwrap();
+            all.iter().map(|file| file.sectors.is_ok()).collect::<Vec<bool>>()
+        };
+        assert_eq!(can(&mut diskette), [true, true]);
+        put(&mut diskette, "X", 4);
+        diskette.delete(&"X".parse().unwrap()).unwrap();
+        assert_eq!(can(&mut diskette), [false, false]);
+    }
 
     fn name(i: usize) -> Name {
         format!("F{}.TXT", i).parse().unwrap()

@@ -3,7 +3,7 @@
 use super::{escaped, Subject};
 use crate::check::Check;
 use crate::commands::plural;
-use crate::plan::words::outcome;
+use crate::plan::words::{lost, outcome};
 use crate::plan::Repaired;
 use crate::words::quoted;
 use flex::Refusal;
@@ -33,10 +33,8 @@ fn outcomes(check: &Check, repaired: &Repaired) -> String {
     let whole = repaired.fates.len() - changed.len();
     let mut text = format!("<p>A repair leaves {} of {} as they are", whole, plural(repaired.fates.len(), "file"));
     let _ = write!(text, ", and {} free.", plural(repaired.free, "sector"));
-    let loss = repaired.loss(check);
-    if loss.files > 0 {
-        let (sectors, files) = (plural(loss.sectors, "sector"), plural(loss.files, "file"));
-        let _ = write!(text, " <strong class=\"broken\">Up to {} of {} would be lost.</strong>", sectors, files);
+    if let Some(lost) = lost(&repaired.loss(check)) {
+        let _ = write!(text, " <strong class=\"broken\">Would be lost: {}.</strong>", lost);
     }
     text.push_str("</p>\n<ul>\n");
     for fate in changed.iter().take(TOLD) {
@@ -60,7 +58,12 @@ fn next(subject: &Subject) -> Vec<(&'static str, String)> {
             let twin = subject.check.findings.iter().find(|finding| finding.number == 43);
             let slot = twin.and_then(|finding| subject.check.slots.get(finding.slots.first()? - 1));
             let name = slot.and_then(|slot| slot.entry()).map_or(String::new(), |entry| entry.name.to_string());
-            let command = format!("flexbox rename --force {} {} NEW.EXT", disk, quoted(&name));
+            let command = match slot {
+                Some(slot) if subject.check.findings.iter().all(|finding| finding.number == 43) => {
+                    format!("flexbox rename --slot {} {} NEW.EXT", slot.number, disk)
+                }
+                _ => format!("flexbox rename --force {} {} NEW.EXT", disk, quoted(&name)),
+            };
             vec![save, ("Then give the first of the two another name", command)]
         }
         Some(Err(_)) => vec![save],

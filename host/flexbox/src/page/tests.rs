@@ -32,7 +32,7 @@ fn page_of(name: &str, image: Vec<u8>) -> String {
     let mut diskette = Diskette::new(image);
     let record = Record::read(&mut diskette).unwrap();
     let check = check::check(&mut diskette).unwrap();
-    let repaired = check.verdict.err().map(|_| Repaired::of(&check, &diskette));
+    let repaired = check.verdict.err().map(|_| Repaired::of(&check, &diskette, &[]));
     let (image, time) = (diskette.image(), "2026-11-15 22:41");
     page(&Subject { name, record: &record, check: &check, repaired: repaired.as_ref(), image, time })
 }
@@ -232,14 +232,14 @@ fn what_a_repair_would_do_and_the_next_command_are_told() {
     let cut = made("my <disk>", &[(offset(6, 1, 1), &[0, 0])]);
     let cut = repair(&cut);
     assert!(cut.starts_with("<p>A repair leaves 1 of 2 files as they are, and 8 sectors free."), "{}", cut);
-    assert!(cut.contains("<strong class=\"broken\">Up to 1 sector of 1 file would be lost.</strong>"), "{}", cut);
+    assert!(cut.contains("<strong class=\"broken\">Would be lost: up to 1 sector of 1 file.</strong>"), "{}", cut);
     assert!(cut.contains("<li>A.TXT: cut from 2 to 1 sector: it ends there</li>"), "{}", cut);
     assert!(cut.contains("Then repair: <code>flexbox repair &#39;my &lt;disk&gt;&#39;</code>"), "{}", cut);
     let lost = made("disk", &[(1024, &[0, 9])]);
     assert!(repair(&lost).starts_with("<p>It can't be repaired: 042 directory not right.</p>"), "{}", repair(&lost));
     assert!(repair(&lost).ends_with("<code>flexbox salvage disk FOLDER</code></p>\n"), "{}", repair(&lost));
     let twins = made("disk", &[(SLOT_B, b"A")]);
-    assert!(repair(&twins).contains("<code>flexbox rename --force disk A.TXT NEW.EXT</code>"), "{}", repair(&twins));
+    assert!(repair(&twins).contains("<code>flexbox rename --slot 1 disk NEW.EXT</code>"), "{}", repair(&twins));
 }
 
 #[test]

@@ -14,7 +14,7 @@ fn in_use() -> Vec<u8> {
 
 fn planned(image: Vec<u8>) -> Plan {
     let mut diskette = Diskette::new(image);
-    Plan::of(crate::check::check(&mut diskette).unwrap(), &diskette)
+    Plan::of(crate::check::check(&mut diskette).unwrap(), &diskette, &[])
 }
 
 fn slot(number: usize) -> usize {
@@ -73,6 +73,7 @@ fn what_is_lost_is_counted() {
     let loss = |stores: &[(usize, &[u8])]| {
         let plan = plan(stores).0;
         let loss = plan.repaired.unwrap().loss(&plan.check);
+        assert_eq!(loss.nobodys, 0);
         (loss.files, loss.sectors)
     };
     assert_eq!(loss(&[]), (0, 0));
@@ -87,6 +88,47 @@ fn what_is_lost_is_counted() {
     assert_eq!(loss(&[(offset(5, 1, 2), &[1, 3])]), (0, 0));
     assert_eq!(loss(&[(offset(5, 1, 2), &[2, 2])]), (0, 0));
     assert_eq!(loss(&[(slot(2), &[255]), (offset(5, 1, 2), &[1, 3]), (offset(5, 1, 5), &[1, 4])]), (1, 3));
+}
+
+/// Bytes that no chain has can be a file's, whoever keeps as many sectors as it states.
+#[test]
+fn written_sectors_in_no_chain_are_counted() {
+    let loss = |stores: &[(usize, &[u8])]| {
+        let plan = plan(stores).0;
+        let repaired = plan.repaired.unwrap();
+        let loss = repaired.loss(&plan.check);
+        let losing: Vec<usize> = repaired.losing().map(|fate| fate.slot).collect();
+        (losing, repaired.gone.len(), loss.sectors, loss.nobodys)
+    };
+    // A link of B, or its start, leads into the free chain: it keeps three sectors, and its own are in no chain.
+    assert_eq!(loss(&[(offset(5, 1, 3), &[2, 2])]), (vec![2], 0, 2, 0));
+    assert_eq!(loss(&[(slot(2) + 13, &[2, 2])]), (vec![2], 0, 3, 0));
+    // Its stated end is wrong, too: nobody can say whose they were.
+    assert_eq!(loss(&[(slot(2) + 13, &[2, 2, 2, 4])]), (vec![], 0, 0, 3));
+    // A leads to B's start: B loses three, and A its second.
+    assert_eq!(loss(&[(offset(5, 1, 1), &[1, 3])]), (vec![1, 2], 0, 4, 0));
+    // The slot's first byte, all of the slot, or the slot and a link are gone.
+    assert_eq!(loss(&[(slot(2), &[b'B' | 128])]), (vec![], 1, 3, 0));
+    assert_eq!(loss(&[(slot(2), &[0])]), (vec![], 1, 3, 0));
+    assert_eq!(loss(&[(slot(2), &[0; 24])]), (vec![], 0, 0, 3));
+    assert_eq!(loss(&[(slot(2), &[0]), (offset(5, 1, 3), &[0, 0])]), (vec![], 1, 1, 2));
+    // Free sectors that were never written are nobody's; those of a deleted file may be somebody's.
+    assert_eq!(loss(&[(541, &[0; 6])]), (vec![], 0, 0, 0));
+    assert_eq!(loss(&[(541, &[0; 6]), (offset(5, 2, 3) + 255, &[1])]), (vec![], 0, 0, 1));
+}
+
+/// Of a file that is dropped nothing is asked, be it in its chain, behind it, or on the way to its end.
+#[test]
+fn what_is_dropped_is_not_counted() {
+    for stores in [&[][..], &[(offset(5, 1, 3), &[2, 2][..])], &[(slot(2) + 17, &[0, 1])], &[(slot(2) + 13, &[2, 2])]] {
+        let (_, image) = plan(stores);
+        let mut diskette = Diskette::new(image);
+        let entry = drop_file(&mut diskette, &"B.TXT".parse().unwrap()).unwrap();
+        let check = crate::check::check(&mut diskette).unwrap();
+        let loss = |dropped: &[Entry]| Repaired::of(&check, &diskette, dropped).unwrap().loss(&check);
+        assert_eq!(loss(&[entry]), Loss { files: 0, sectors: 0, nobodys: 0 });
+        assert_ne!(loss(&[]), Loss { files: 0, sectors: 0, nobodys: 0 });
+    }
 }
 
 #[test]
@@ -123,6 +165,22 @@ fn a_way_out_is_told_where_it_is_one() {
     assert_eq!(ways(&more(541, &[2, 2, 2, 2, 0, 1])), (Some("A.TXT".to_string()), true));
 }
 
+fn counted(repaired: &Repaired, check: &Check) -> usize {
+    let loss = repaired.loss(check);
+    loss.sectors + loss.nobodys
+}
+
+/// How many written sectors are a file's or in no chain before, and not that file's, or free, afterwards.
+fn taken_away(repaired: &Repaired, check: &Check, image: &[u8]) -> usize {
+    let held = repaired.diskette.survey().unwrap();
+    let then = |number: usize| owner(&held, number);
+    let of_files = check.chains.iter().filter(|(owner, _)| matches!(owner, Owner::File(_)));
+    let gone = of_files.flat_map(|(owner, chain)| chain.iter().map(move |&at| (owner, at)));
+    let gone = gone.filter(|&(owner, at)| then(check.shape.number(at)) != *owner).count();
+    let freed = lost(check).filter(|&number| crate::raw::is_written(image, check.shape, check.shape.address(number)));
+    gone + freed.count()
+}
+
 #[test]
 fn what_is_told_is_what_the_repair_does() {
     let mut numbers = Numbers::start();
@@ -151,6 +209,7 @@ fn what_is_told_is_what_the_repair_does() {
         }
         wronged += repaired.wronged().count();
         assert!(repaired.found <= repaired.free);
+        assert!(counted(&repaired, &plan.check) >= taken_away(&repaired, &plan.check, &image));
     }
     assert!(cut > 1000 && wronged > 100, "{} {}", cut, wronged);
 }

@@ -2,7 +2,8 @@
 
 use super::{follow, Fault, Found, Origin};
 use crate::check::Chain;
-use flex::{Address, Shape, SECTOR};
+use crate::raw;
+use flex::{Address, Shape};
 
 /// Each from a sector that none of the others leads to; what goes round in a circle from its lowest sector. Chains without a byte that is
 /// not 0 behind their links were never written, and are passed over.
@@ -14,7 +15,7 @@ pub fn chains(image: &[u8], shape: Shape, held: &[usize], is_there: &impl Fn(Add
     let mut found = Vec::new();
     for start in starts(image, shape, &is_loose) {
         let sectors = take(image, shape, start, &mut is_loose);
-        if sectors.iter().any(|&at| is_written(image, shape, at)) {
+        if sectors.iter().any(|&at| raw::is_written(image, shape, at)) {
             let next = sectors.last().map_or(Address::NONE, |&last| link(image, shape, last));
             let is_missing = sectors.iter().any(|&at| !is_there(at));
             let faults = if is_missing { vec![Fault::Missing] } else { Vec::new() };
@@ -26,11 +27,6 @@ pub fn chains(image: &[u8], shape: Shape, held: &[usize], is_there: &impl Fn(Add
 
 fn link(image: &[u8], shape: Shape, at: Address) -> Address {
     Address::at(image, shape.offset(at))
-}
-
-fn is_written(image: &[u8], shape: Shape, at: Address) -> bool {
-    let at = shape.offset(at);
-    image[at + 2..at + SECTOR].iter().any(|&byte| byte != 0)
 }
 
 /// First the sectors that no loose one leads to, then all of them: what is taken by then is passed over.
