@@ -246,7 +246,7 @@ patch "$(sector 1 3)" 2 6
 patch $(($(slot 2) + 17)) 0 3
 ends 1 "" repair --dry-run disk
 shows "45 NORTH.TXT (slot 2, at 0,5 byte 40): sector 3 of 3 is at 2,7, but its stated end is 2,4"
-shows "NORTH.TXT (slot 2, at 0,5 byte 40): kept as it is stated, 3 sectors, but to its stated end, 2,4, lead 4 sectors in no chain"
+shows "NORTH.TXT (slot 2, at 0,5 byte 40): kept as it is stated, 3 sectors, but to its stated end, 2,4, lead 4 sectors that no file has"
 shows "POWER.TXT (slot 4, at 0,5 byte 88): cut from 2 to 0 sectors: its start is 2,6, which NORTH.TXT (slot 2, at 0,5 byte 40) has"
 shows "POWER.TXT is rightly chained, and would be cut for NORTH.TXT (slot 2, at 0,5 byte 40), which is damaged and comes before it."
 ends 2 "not changed, since 2 files would lose up to 6 sectors: NORTH.TXT (4 sectors on the way to its stated end), POWER.TXT (2 to 0" repair disk
@@ -373,7 +373,7 @@ big() {
 big
 patch "$(sector 1 5)" 5 1
 cuts "1 file would lose up to 18 sectors: BIG.TXT (18 sectors on the way to its stated end)" "up to 18 sectors of 1 file"
-shows "BIG.TXT (slot 2, at 0,5 byte 40): kept as it is stated, 20 sectors, but to its stated end, 3,7, lead 18 sectors in no chain"
+shows "BIG.TXT (slot 2, at 0,5 byte 40): kept as it is stated, 20 sectors, but to its stated end, 3,7, lead 18 sectors that no file has"
 big
 patch $(($(slot 2) + 13)) 6
 cuts "1 file would lose up to 20 sectors: BIG.TXT (20 sectors on the way to its stated end)" "up to 20 sectors of 1 file"

@@ -102,7 +102,7 @@ impl Repaired {
         });
         let fates: Vec<Fate> = fates.collect();
         Ok(Repaired {
-            taken: in_no_chain + pushed_out(check, &fates),
+            taken: in_no_chain + pushed_out(check, &fates) + loose.from_free,
             fates,
             free: held.iter().filter(|one| one.owner == OWNER_FREE).count(),
             found: lost(check).filter(|&number| owner(number) == Owner::Free).count(),

@@ -1,7 +1,8 @@
 //! The data sectors that no chain has, and whose they may be: a repair makes them free, and what was written in them can be a file's bytes.
+//! So can what the free chain alone has, where a damaged file leads there: then the free chain may be what is wrong.
 
 use super::lost;
-use crate::check::{Chain, Check};
+use crate::check::{Chain, Check, Owner};
 use crate::raw;
 use flex::{Address, Entry, Shape};
 
@@ -11,8 +12,12 @@ pub struct Loose<'a> {
     shape: Shape,
     /// By the sector's number: in no chain, and not taken yet.
     is_loose: Vec<bool>,
-    /// The loose sectors whose links lead to this one.
+    /// By the sector's number: in the free chain alone, and not taken yet.
+    is_free: Vec<bool>,
+    /// The sectors of either kind whose links lead to this one.
     led_from: Vec<Vec<usize>>,
+    /// How many written ones were taken from the free chain.
+    pub from_free: usize,
 }
 
 impl<'a> Loose<'a> {
@@ -22,10 +27,12 @@ impl<'a> Loose<'a> {
             image,
             shape,
             is_loose: vec![false; shape.data_sectors()],
+            is_free: free_alone(check),
             led_from: vec![Vec::new(); shape.data_sectors()],
+            from_free: 0,
         };
-        for number in lost(check) {
-            loose.is_loose[number] = true;
+        lost(check).for_each(|number| loose.is_loose[number] = true);
+        for number in (0..shape.data_sectors()).filter(|&number| loose.is_loose[number] || loose.is_free[number]) {
             let next = loose.link(number);
             if shape.is_data(next) {
                 loose.led_from[shape.number(next)].push(number);
@@ -54,7 +61,7 @@ impl<'a> Loose<'a> {
         let mut waiting: Vec<usize> = self.loose(end).into_iter().collect();
         let mut count = 0;
         while let Some(number) = waiting.pop() {
-            if self.is_loose[number] {
+            if self.is_loose[number] || self.is_free[number] {
                 count += self.take(number);
                 waiting.extend(&self.led_from[number]);
             }
@@ -65,7 +72,9 @@ impl<'a> Loose<'a> {
     /// Takes those that are in the chain that a slot states.
     pub fn take_chain(&mut self, entry: &Entry) -> usize {
         let walked = Chain::of_file(0, entry).walk(self.image, self.shape).sectors;
-        walked.into_iter().filter_map(|at| Some(self.take(self.loose(at)?))).sum()
+        let mut loose = walked.into_iter().filter_map(|at| self.loose(at)).collect::<Vec<_>>();
+        loose.retain(|&number| self.is_loose[number]);
+        loose.into_iter().map(|number| self.take(number)).sum()
     }
 
     /// Nothing is asked about all that leads to this file.
@@ -78,13 +87,18 @@ impl<'a> Loose<'a> {
 
     fn loose(&self, at: Address) -> Option<usize> {
         let number = self.shape.is_data(at).then(|| self.shape.number(at))?;
-        self.is_loose[number].then_some(number)
+        (self.is_loose[number] || self.is_free[number]).then_some(number)
     }
 
     /// 1 if it was written.
     fn take(&mut self, number: usize) -> usize {
+        let written = self.is_written(number).into();
+        if self.is_free[number] {
+            self.from_free += written;
+        }
         self.is_loose[number] = false;
-        self.is_written(number).into()
+        self.is_free[number] = false;
+        written
     }
 
     fn is_written(&self, number: usize) -> bool {
@@ -94,4 +108,13 @@ impl<'a> Loose<'a> {
     fn link(&self, number: usize) -> Address {
         Address::at(self.image, self.shape.offset(self.shape.address(number)))
     }
+}
+
+/// The sectors that the free chain has, and neither a file nor the directory.
+fn free_alone(check: &Check) -> Vec<bool> {
+    let mut alone = vec![false; check.shape.data_sectors()];
+    let (free, held): (Vec<_>, Vec<_>) = check.chains.iter().partition(|(owner, _)| *owner == Owner::Free);
+    free.iter().flat_map(|(_, sectors)| sectors).for_each(|&at| alone[check.shape.number(at)] = true);
+    held.iter().flat_map(|(_, sectors)| sectors).for_each(|&at| alone[check.shape.number(at)] = false);
+    alone
 }

@@ -103,6 +103,11 @@ fn written_sectors_in_no_chain_are_counted() {
     // A link of B, or its start, leads into the free chain: it keeps three sectors, and its own are in no chain.
     assert_eq!(loss(&[(offset(5, 1, 3), &[2, 2])]), (vec![2], 0, 2, 0));
     assert_eq!(loss(&[(slot(2) + 13, &[2, 2])]), (vec![2], 0, 3, 0));
+    // First free is wrong, too, and its own last two are in the free chain: they may be its all the same.
+    let both = [(offset(5, 1, 3), &[2, 2][..]), (541, &[1, 4])];
+    assert_eq!(loss(&both), (vec![2], 0, 2, 0));
+    // A deleted file's bytes in a free chain of which no damaged file has its end are not asked about.
+    assert_eq!(loss(&[(541 + 5, &[1]), (offset(5, 2, 3) + 255, &[1])]).0, vec![]);
     // Its stated end is wrong, too: nobody can say whose they were.
     assert_eq!(loss(&[(slot(2) + 13, &[2, 2, 2, 4])]), (vec![], 0, 0, 3));
     // A leads to B's start: B loses three, and A its second.

@@ -13,7 +13,7 @@ pub fn outcome(check: &Check, fate: &Fate) -> String {
         false if fate.is_right => format!("kept whole, {}{}", size, doubt(fate)),
         false if fate.before_end > 0 => {
             let (lead, end) = (plural(fate.before_end, "sector"), fate.entry.end);
-            format!("kept as it is stated, {}, but to its stated end, {}, lead {} in no chain", size, end, lead)
+            format!("kept as it is stated, {}, but to its stated end, {}, lead {} that no file has", size, end, lead)
         }
         false if fate.kept == 0 => "kept as it is stated, no sector".to_string(),
         false if fate.next != Address::NONE => {
