@@ -1,5 +1,5 @@
 //! The data sectors that no chain has, and whose they may be: a repair makes them free, and what was written in them can be a file's bytes.
-//! So can what the free chain alone has, where a damaged file leads there: then the free chain may be what is wrong.
+//! So can what the free chain alone has, where a damaged file's stated end lies: then the free chain may be what is wrong.
 
 use super::lost;
 use crate::check::{Chain, Check, Owner};
@@ -58,7 +58,7 @@ impl<'a> Loose<'a> {
 
     /// Takes this one and those that lead to it.
     pub fn take_to(&mut self, end: Address) -> usize {
-        let mut waiting: Vec<usize> = self.loose(end).into_iter().collect();
+        let mut waiting: Vec<usize> = self.number(end).into_iter().collect();
         let mut count = 0;
         while let Some(number) = waiting.pop() {
             if self.is_loose[number] || self.is_free[number] {
@@ -72,9 +72,7 @@ impl<'a> Loose<'a> {
     /// Takes those that are in the chain that a slot states.
     pub fn take_chain(&mut self, entry: &Entry) -> usize {
         let walked = Chain::of_file(0, entry).walk(self.image, self.shape).sectors;
-        let mut loose = walked.into_iter().filter_map(|at| self.loose(at)).collect::<Vec<_>>();
-        loose.retain(|&number| self.is_loose[number]);
-        loose.into_iter().map(|number| self.take(number)).sum()
+        walked.into_iter().filter_map(|at| Some(self.take(self.loose(at)?))).sum()
     }
 
     /// Nothing is asked about all that leads to this file.
@@ -85,9 +83,12 @@ impl<'a> Loose<'a> {
         self.take_to(entry.end);
     }
 
+    fn number(&self, at: Address) -> Option<usize> {
+        self.shape.is_data(at).then(|| self.shape.number(at))
+    }
+
     fn loose(&self, at: Address) -> Option<usize> {
-        let number = self.shape.is_data(at).then(|| self.shape.number(at))?;
-        (self.is_loose[number] || self.is_free[number]).then_some(number)
+        self.number(at).filter(|&number| self.is_loose[number])
     }
 
     /// 1 if it was written.
