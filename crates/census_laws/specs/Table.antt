@@ -230,11 +230,14 @@ table_more img n ms ps o j c l h t =
     names i z = go (ℕ_discrete i j)
       where
         go : Dec (i ≡ j) → (member (slot_of (get_or (set ms j (code_of o + 1)) i 0)) (o ∷ ps) ≡ true) × (live img (slot_of (get_or (set ms j (code_of o + 1)) i 0)) ≡ true)
-        go (yes q) = rw (q, get_or-set_same ms j (code_of o + 1) 0 inside, c) (member-here o ps, l)
+        go (yes q) =
+            let e = ap (λ (k : ℕ). slot_of (get_or (set ms j (code_of o + 1)) k 0)) q ∙ ap slot_of (get_or-set_same ms j (code_of o + 1) 0 inside) ∙ c in
+            subst (λ (x : ℕ). (member x (o ∷ ps) ≡ true) × (live img x ≡ true)) (sym e) (member-here o ps, l)
         go (no q) =
             let e = get_or-set_other ms j i (code_of o + 1) 0 q in
             let r = t.only i (λ w. z (e ∙ w)) in
-            rw e (member-there (slot_of (get_or ms i 0)) o ps r.0, r.1)
+            subst (λ (x : ℕ). (member (slot_of x) (o ∷ ps) ≡ true) × (live img (slot_of x) ≡ true)) (sym e)
+            (member-there (slot_of (get_or ms i 0)) o ps r.0, r.1)
 
 -- ---- what a pass says: where it met no name twice, there are no twins, and no live slot that it had met before is a namesake
 met-once : (img : List ℕ) (n : ℕ) (os ms ms' ps : List ℕ) → Each Coded os → Table img n ms ps → entering img n os ms ≡ entered Once ms'

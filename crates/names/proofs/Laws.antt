@@ -71,9 +71,9 @@ module _ (m : List ℕ) (at i n : ℕ) {w : Bool} {b : ℕ} (e : b ≡ get_or m 
   unfolding goes_on
   goes-no v q k d = rw (d, v, part-more m (at + i) n h, ← e, ← q, k) refl
 
-  pub goes_on : {r : Bool} → w ≡ goes_on (part m (at + i) n) → r ≡ is_name_byte b → r ≡ true → w ≡ goes_on (part m (at + (i + 1)) (n - 1))
+  pub goes_on_lem : {r : Bool} → w ≡ goes_on (part m (at + i) n) → r ≡ is_name_byte b → r ≡ true → w ≡ goes_on (part m (at + (i + 1)) (n - 1))
   unfolding goes_on
-  goes_on v q k = rw (v, part-more m (at + i) n h, ← e, ← q, k, ← further) refl
+  goes_on_lem v q k = rw (v, part-more m (at + i) n h, ← e, ← q, k, ← further) refl
 
 pub zero-end : (m : List ℕ) (p n : ℕ) {w : Bool} → w ≡ all_zero (part m p n) → n ≤ 0 → true ≡ w
 unfolding all_zero

@@ -1,0 +1,7 @@
+use Rattle.rules.specs.Bytes.{six}
+use borrow.Author.Rules.{rules}
+use Rattle.cells.proofs.put6.Goals as goal
+
+pub returns : goal.returns
+unfolding six
+returns c = cc

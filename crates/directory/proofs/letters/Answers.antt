@@ -1,0 +1,6 @@
+use Rattle.directory.proofs.Laws.{letters-word}
+use borrow.Author.Rules.{rules}
+use Rattle.directory.proofs.letters.Goals as goal
+
+pub returns : goal.returns
+returns c = search letters-word

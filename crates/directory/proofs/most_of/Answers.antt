@@ -1,0 +1,10 @@
+use native.Mathlib.Omega.{arith}
+use Rattle.directory.proofs.Laws.{product}
+use borrow.Author.Rules.{rules}
+use Rattle.directory.proofs.most_of.Goals as goal
+
+pub overflow_mul-behind : goal.overflow_mul-behind
+overflow_mul-behind c = omega (arith, product c.args.last c.args.per (omega arith) (omega arith))
+
+pub overflow_add-result : goal.overflow_add-result
+overflow_add-result c = omega (arith, product c.args.last c.args.per (omega arith) (omega arith))

@@ -1,0 +1,6 @@
+use Rattle.directory.proofs.Laws.{next-by}
+use borrow.Author.Rules.{rules}
+use Rattle.directory.proofs.next_of.Goals as goal
+
+pub returns : goal.returns
+returns c = search next-by

@@ -1,0 +1,6 @@
+use Rattle.laws.specs.Lent.{over-part}
+use borrow.Author.Rules.{rules}
+use Rattle.disk.proofs.load_sector.Goals as goal
+
+pub returns : goal.returns
+returns c = search over-part

@@ -1,0 +1,6 @@
+use Rattle.disk.proofs.Laws.{data-stored}
+use borrow.Author.Rules.{rules}
+use Rattle.disk.proofs.store_data.Goals as goal
+
+pub returns : goal.returns
+returns c = search data-stored

@@ -1,0 +1,6 @@
+use Rattle.disk.proofs.Laws.{sector-stored}
+use borrow.Author.Rules.{rules}
+use Rattle.disk.proofs.store_sector.Goals as goal
+
+pub returns : goal.returns
+returns c = search sector-stored

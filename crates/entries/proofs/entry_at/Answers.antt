@@ -1,0 +1,7 @@
+use Rattle.entries.specs.Entries.{entry_of}
+use borrow.Author.Rules.{rules}
+use Rattle.entries.proofs.entry_at.Goals as goal
+
+pub returns : goal.returns
+unfolding entry_of
+returns c = cc

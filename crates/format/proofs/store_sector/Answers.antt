@@ -1,0 +1,6 @@
+use Rattle.format.proofs.Laws.{sector-stored}
+use borrow.Author.Rules.{rules}
+use Rattle.format.proofs.store_sector.Goals as goal
+
+pub returns : goal.returns
+returns c = search sector-stored

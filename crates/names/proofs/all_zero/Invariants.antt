@@ -1,0 +1,13 @@
+use mathlib.Core.Path.{◌≡◌, refl}
+use Prim.Native.Nat.{◌+◌, ◌≤◌}
+use native.Mathlib.Omega.{arith}
+use Rattle.rules.specs.Bytes.{part}
+use Rattle.rules.specs.Names.{all_zero}
+use Rattle.names.proofs.Laws.{zero-no, zero-on, zero-end}
+use Rattle.names.proofs.all_zero.Given as goal
+
+abbrev pub invariant-loop-left : goal.invariant-loop-left
+invariant-loop-left l = (all_zero (part l.table (l.at + l.from) l.n) ≡ all_zero (part l.table (l.at + l.i) l.left)) × (l.i + l.left ≤ 11)
+
+abbrev pub decreases-loop-left : goal.decreases-loop-left
+decreases-loop-left l = l.left

@@ -1,0 +1,14 @@
+use mathlib.Core.Path.{◌≡◌, refl}
+use Prim.Native.Nat.{◌+◌, ◌≤◌}
+use native.Mathlib.Omega.{arith}
+use Rattle.rules.specs.Bytes.{part}
+use borrow.Author.Tests.{not-true, not-false}
+use Rattle.rules.specs.Names.{goes_on}
+use Rattle.names.proofs.Laws.{goes-no, goes_on_lem, goes_end}
+use Rattle.names.proofs.goes_on.Given as goal
+
+abbrev pub invariant-loop-left : goal.invariant-loop-left
+invariant-loop-left l = (goes_on (part l.table (l.at + l.from) l.n) ≡ goes_on (part l.table (l.at + l.i) l.left)) × (l.i + l.left ≤ 11)
+
+abbrev pub decreases-loop-left : goal.decreases-loop-left
+decreases-loop-left l = l.left

@@ -1,0 +1,6 @@
+use Rattle.census_laws.specs.Marks.{mark-cleared}
+use borrow.Author.Rules.{rules}
+use Rattle.outputs.proofs.are_new.Goals as goal
+
+pub returns : goal.returns
+returns c = search mark-cleared

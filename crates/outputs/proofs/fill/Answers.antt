@@ -1,0 +1,6 @@
+use Rattle.census_laws.specs.Stored.{run-whole}
+use borrow.Author.Rules.{rules}
+use Rattle.outputs.proofs.fill.Goals as goal
+
+pub returns : goal.returns
+returns c = search run-whole
