@@ -73,7 +73,7 @@ pub(crate) fn call(image: &mut [u8], table: &mut [u8], line: &[u8]) {
 }
 
 // How many calls were accepted, and the last answer.
-#[derive(Drop)]
+#[derive(Clone, Copy)]
 struct Sent {
     accepted: usize,
     answer: u8,

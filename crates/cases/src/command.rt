@@ -2,7 +2,7 @@
 use crate::line::find;
 use check::same;
 
-#[derive(Drop)]
+#[derive(Clone, Copy)]
 pub(crate) enum Command {
     Blank,
     Heading,

@@ -27,7 +27,7 @@ pub(crate) fn behind(text: &[u8], from: usize, byte: u8) -> usize {
 }
 
 // A number being sought: how many come before it, its value so far, and whether the last byte was a digit.
-#[derive(Drop)]
+#[derive(Clone, Copy)]
 struct Scan {
     ahead: usize,
     value: u32,
@@ -91,7 +91,7 @@ fn scanned(s: Scan, byte: u8) -> Scan {
     s
 }
 
-#[derive(Drop)]
+#[derive(Clone, Copy)]
 pub(crate) enum Found {
     Number(u32),
     Nothing,

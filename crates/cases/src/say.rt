@@ -16,7 +16,7 @@ pub(crate) fn answer(n: u8) {
 }
 
 // Equal bytes in a row, so many times.
-#[derive(Drop)]
+#[derive(Clone, Copy)]
 pub(crate) struct Run {
     pub(crate) byte: u8,
     pub(crate) times: usize,

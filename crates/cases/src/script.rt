@@ -7,7 +7,7 @@ use crate::{ask, look, map, say};
 use cells::{clear, copy};
 
 // How many bytes of the image and of the table are lent.
-#[derive(Drop)]
+#[derive(Clone, Copy)]
 struct Lent {
     image: u32,
     table: u32,

@@ -1,14 +1,14 @@
 // What the census's passes answer: the definitions and laws in specs/ share it with the code. No function stands here.
 
 // What a list has come to: so many numbers, or a chain is not right.
-#[derive(Drop)]
+#[derive(Clone, Copy)]
 pub enum Listing {
     Many(usize),
     Wrong,
 }
 
 // Where the table of names has a name: nowhere, and there is a free place for it; at one; nowhere, and no place is free.
-#[derive(Drop)]
+#[derive(Clone, Copy)]
 pub enum Spot {
     Free(usize),
     Taken,
@@ -16,7 +16,7 @@ pub enum Spot {
 }
 
 // What a pass has come to that enters names in a table: no name twice, one twice, or it does not know.
-#[derive(Drop)]
+#[derive(Clone, Copy)]
 pub enum Seen {
     Once,
     Twice,

@@ -15,7 +15,7 @@ use rules::slot::SLOT_LENGTH;
 use rules::{Lookup, Next};
 
 // How far the directory goes: its last sector, and how many sectors it has.
-#[derive(Drop)]
+#[derive(Clone, Copy)]
 pub struct Extent {
     pub end: u16,
     pub sectors: u16,

@@ -9,20 +9,20 @@ ghost use Rattle.disk.specs.Loaded.{is_shape, shape_of, free_of};
 use cells::{copy, get, get2, put2, put6, store};
 
 // The last track and the sectors per track.
-#[derive(Drop)]
+#[derive(Clone, Copy)]
 pub struct Shape {
     pub last: u8,
     pub per: u8,
 }
 
-#[derive(Drop)]
+#[derive(Clone, Copy)]
 pub enum Shaped {
     Right(Shape),
     Wrong,
 }
 
 // The free chain, as the information record has it.
-#[derive(Drop)]
+#[derive(Clone, Copy)]
 pub struct Free {
     pub first: u16,
     pub last: u16,

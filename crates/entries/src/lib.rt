@@ -18,7 +18,7 @@ const READ_PROTECT: u8 = 32;
 
 // The 24 bytes of a slot, which are bytes 4 to 27 of a control block. Bytes 12 and 20 have no name in the rules, and
 // byte 19, the map, has no say in what is done here; they are kept.
-#[derive(Drop)]
+#[derive(Clone, Copy)]
 pub struct Entry {
     pub name: [u8; 11],
     pub attributes: u8,

@@ -20,7 +20,7 @@ use transfer::{Given, close, read, write};
 mod codes;
 
 // What a call gives back: 0 or the number of the refusal, and the byte that reading returns.
-#[derive(Drop)]
+#[derive(Clone, Copy)]
 pub struct Reply {
     pub answer: u8,
     pub byte: u8,

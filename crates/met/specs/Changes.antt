@@ -378,21 +378,26 @@ module _ (a : Ledger) (t : Tidy a.slots) where
   pub tidy-change : (a' : Ledger) (n : ℕ) (q : Request) → length q.name ≡ 11 → length q.rename ≡ 11
       → ((s : ℕ) (ub : List ℕ) → block a n ≡ writing s ub → (s < length a.slots) × (live (name_of a.slots s) 0 ≡ true))
       → Change a n q a' → Tidy a'.slots
-  tidy-change a' n q ln lr ow (still ne) = t
-  tidy-change a' n q ln lr ow (turned ne b st) = t
-  tidy-change a' n q ln lr ow (worked ne s ub fr vs f b x y st fd) = let o = ow s ub x in same_name s f o.0 (ap (λ (x : List ℕ). live x 0) y ∙ o.1) y
-  tidy-change a' n q ln lr ow (dropped ne s ub x) = marked s (ow s ub x).0
-  tidy-change a' n q ln lr ow (made ne s x y w) =
-      tidy-set a.slots t s (new_file (file a s).at q.name q.date) (seek_found (λ x. vacant x 0) a.slots s w).low ln
-      (λ v j ne b u. found_none q.name a.slots t y j b u)
-  tidy-change a' n q ln lr ow (grew ne k fr ef x) =
-      tidy-more a.slots (unused_slots (first_slot_of k + 24) 9) (new_file (first_slot_of k) q.name q.date) t ln
-      (λ j b u. found_none q.name a.slots t x j b u)
-      (unused-names (first_slot_of k + 24) 9)
-  tidy-change a' n q ln lr ow (gone s x y by) = marked s (seek_found (λ x. named x q.name 0) a.slots s y).low
-  tidy-change a' n q ln lr ow (retitled s x y by w v) =
-      tidy-set a.slots t s (with_name (file a s) q.rename) (seek_found (λ x. named x q.name 0) a.slots s y).low lr
-      (λ u j ne b k. found_none q.rename a.slots t v j b k)
+  tidy-change a' n q ln lr ow h = go n a' ow h
+    where
+      -- n stands before a', so that the cases can say what a' is by n
+      go : (n : ℕ) (a' : Ledger) → ((s : ℕ) (ub : List ℕ) → block a n ≡ writing s ub → (s < length a.slots) × (live (name_of a.slots s) 0 ≡ true))
+          → Change a n q a' → Tidy a'.slots
+      go n a' ow (still ne) = t
+      go n a' ow (turned ne b st) = t
+      go n a' ow (worked ne s ub fr vs f b x y st fd) = let o = ow s ub x in same_name s f o.0 (ap (λ (x : List ℕ). live x 0) y ∙ o.1) y
+      go n a' ow (dropped ne s ub x) = marked s (ow s ub x).0
+      go n a' ow (made ne s x y w) =
+          tidy-set a.slots t s (new_file (file a s).at q.name q.date) (seek_found (λ x. vacant x 0) a.slots s w).low ln
+          (λ v j ne b u. found_none q.name a.slots t y j b u)
+      go n a' ow (grew ne k fr ef x) =
+          tidy-more a.slots (unused_slots (first_slot_of k + 24) 9) (new_file (first_slot_of k) q.name q.date) t ln
+          (λ j b u. found_none q.name a.slots t x j b u)
+          (unused-names (first_slot_of k + 24) 9)
+      go n a' ow (gone s x y by) = marked s (seek_found (λ x. named x q.name 0) a.slots s y).low
+      go n a' ow (retitled s x y by w v) =
+          tidy-set a.slots t s (with_name (file a s) q.rename) (seek_found (λ x. named x q.name 0) a.slots s y).low lr
+          (λ u j ne b k. found_none q.rename a.slots t v j b k)
 
 -- ---- what a block that writes can call: 0 and 4
 

@@ -155,7 +155,7 @@ module _ (M S : ℕ) (z : Shape M S) (img tab : List ℕ) (a : Ledger) (r : Agre
         nobody o h =
             let p = placed-is img M S (place_in tab (320 * n)) o h in
             let d : o % 256 ≡ 0 = ap (λ (l : List ℕ). get_or l 2 0) (p.1 ∙ k.place) in
-            omega (arith, d, (slot_is img M S z.sectors o p.0.one_of_lem).low)
+            omega (arith, d, (slot_is img M S z.sectors o p.0.one_of).low)
 
         go : (l : Lookup) → slot_in img tab M S (320 * n) ≡ l
             → Meets M S img tab n (on_slot l 5 5 (λ slot. done 0 (store (slot / 256) (slot % 256) (part tab (320 * n + 4) 24) ∷ []) [])) (denied 5)

@@ -23,7 +23,7 @@ use rules::{Lookup, Next};
 use slotwalk::has_twins;
 
 // What a file keeps: its last sector's address, and how many there are.
-#[derive(Drop)]
+#[derive(Clone, Copy)]
 struct Kept {
     end: u16,
     count: u16,

@@ -15,7 +15,7 @@ use rules::Lookup;
 use rules::block::{BUFFER, INDEX, NUMBER, PLACE, POSITION, SIZE, START};
 
 // What a block says of the file that it writes.
-#[derive(Drop)]
+#[derive(Clone, Copy)]
 struct Block {
     pub position: u16,
     pub start: u16,
@@ -24,7 +24,7 @@ struct Block {
 
 // What is known before a sector is taken: may the former position be followed, the free chain's refusal or 0, and the sector that
 // it would give.
-#[derive(Drop)]
+#[derive(Clone, Copy)]
 struct Plan {
     pub follows: bool,
     pub fault: u8,
@@ -32,7 +32,7 @@ struct Plan {
 }
 
 // A file with one sector more: the position that was its last, the sector taken, start and size with it.
-#[derive(Drop)]
+#[derive(Clone, Copy)]
 struct Longer {
     pub former: u16,
     pub new: u16,

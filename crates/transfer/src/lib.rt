@@ -20,7 +20,7 @@ use taking::{slot_of, take_sector};
 const DATA: usize = 68;
 
 // What reading gives: the byte, or the number of the refusal.
-#[derive(Drop)]
+#[derive(Clone, Copy)]
 pub enum Given {
     Byte(u8),
     Refused(u8),

@@ -1,0 +1,6 @@
+use Rattle.census.proofs.Laws.{own-done}
+use borrow.Author.Rules.{rules}
+use Rattle.census.proofs.own_all.Goals as goal
+
+pub returns : goal.returns
+returns c = search own-done

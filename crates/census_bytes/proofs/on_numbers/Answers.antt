@@ -1,0 +1,6 @@
+use Rattle.census_bytes.proofs.Laws.{host-both}
+use borrow.Author.Rules.{rules}
+use Rattle.census_bytes.proofs.on_numbers.Goals as goal
+
+pub returns : goal.returns
+returns c = host-both _ _ _ _ _ c.requires.0 c.requires.1 c.requires.2 c.requires.3 c.requires.4 c.census-e.auto.sectors c.census-e.auto.owners c.census-e.ensures c.spread.ensures c.spread-2.ensures

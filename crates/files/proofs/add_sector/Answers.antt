@@ -1,0 +1,6 @@
+use Rattle.files.proofs.Laws.{sector-added}
+use borrow.Author.Rules.{rules}
+use Rattle.files.proofs.add_sector.Goals as goal
+
+pub returns : goal.returns
+returns c = search sector-added

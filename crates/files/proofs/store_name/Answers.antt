@@ -1,0 +1,6 @@
+use Rattle.files.proofs.Laws.{name-stored}
+use borrow.Author.Rules.{rules}
+use Rattle.files.proofs.store_name.Goals as goal
+
+pub returns : goal.returns
+returns c = search name-stored

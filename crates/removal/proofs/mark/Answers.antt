@@ -1,0 +1,6 @@
+use Rattle.removal.proofs.Laws.{marked}
+use borrow.Author.Rules.{rules}
+use Rattle.removal.proofs.mark.Goals as goal
+
+pub returns : goal.returns
+returns c = search marked

@@ -1,0 +1,6 @@
+use Rattle.removal.proofs.Laws.{marked-shown}
+use borrow.Author.Rules.{rules}
+use Rattle.removal.proofs.show_marked.Goals as goal
+
+pub returns : goal.returns
+returns c = search marked-shown

@@ -1,0 +1,9 @@
+use Rattle.laws.specs.Tests.{tests}
+use borrow.Author.Rules.{rules}
+use Rattle.repair.proofs.end_of.Goals as goal
+
+pub returns-then-free-eq0 : goal.returns-then-free-eq0
+returns-then-free-eq0 c = search tests
+
+pub returns : goal.returns
+returns c = search tests

@@ -1,0 +1,9 @@
+use Rattle.laws.specs.Tests.{tests}
+use borrow.Author.Rules.{rules}
+use Rattle.repair.proofs.map_kept.Goals as goal
+
+pub returns-then-count-size : goal.returns-then-count-size
+returns-then-count-size c = search tests
+
+pub returns : goal.returns
+returns c = search tests

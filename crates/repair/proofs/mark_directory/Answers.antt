@@ -1,0 +1,22 @@
+use mathlib.Core.Path.{◌≡◌, refl}
+use lib.ListN.{length}
+use Rattle.rules.specs.Directory.{sectors_from, directory}
+use Rattle.repair.specs.Passes.{with_marks}
+use Rattle.repair.proofs.Laws.{marks-first, marks-none, marks-next, marks-last, marks-astray}
+use borrow.Author.Rules.{rules}
+use Rattle.repair.proofs.mark_directory.Goals as goal
+
+pub loop-left-init : goal.loop-left-init
+loop-left-init c = (search marks-first, refl)
+
+pub returns-in-End : goal.returns-in-End
+returns-in-End c = search marks-last
+
+pub returns-in-Astray : goal.returns-in-Astray
+returns-in-Astray c = search marks-astray
+
+pub loop-left-preserved : goal.loop-left-preserved
+loop-left-preserved c = (search marks-next, search rules)
+
+pub returns : goal.returns
+returns c = search marks-none

@@ -1,0 +1,7 @@
+use native.Mathlib.Omega.{arith}
+use Rattle.repair.specs.Whole.{mend-is}
+use borrow.Author.Rules.{rules}
+use Rattle.repair.proofs.mend.Goals as goal
+
+pub returns : goal.returns
+returns c = mend-is _ _ c.requires.0 _ (record { at = λ p. omega (arith, c.slice_known-1.given p) }) c.requires.1 c.args.marks.now c.requires.2 c.fill.ensures c.mark_directory.ensures c.mend_files.ensures c.mend_free.ensures

@@ -1,0 +1,6 @@
+use Rattle.repair.proofs.Laws.{free-mended}
+use borrow.Author.Rules.{rules}
+use Rattle.repair.proofs.mend_free.Goals as goal
+
+pub returns : goal.returns
+returns c = search free-mended

@@ -1,0 +1,6 @@
+use Rattle.repair.proofs.Laws.{slot-done}
+use borrow.Author.Rules.{rules}
+use Rattle.repair.proofs.mend_slot.Goals as goal
+
+pub returns : goal.returns
+returns c = search slot-done

@@ -1,0 +1,9 @@
+use Rattle.laws.specs.Tests.{tests}
+use borrow.Author.Rules.{rules}
+use Rattle.repair.proofs.start_kept.Goals as goal
+
+pub returns-then-count-eq0 : goal.returns-then-count-eq0
+returns-then-count-eq0 c = search tests
+
+pub returns : goal.returns
+returns c = search tests

@@ -1,0 +1,10 @@
+use borrow.Author.Tests.{not-true, not-false}
+use Rattle.slotwalk.proofs.Laws.{if-dead, if-live}
+use borrow.Author.Rules.{rules}
+use Rattle.slotwalk.proofs.held.Goals as goal
+
+pub returns-then-not-alive : goal.returns-then-not-alive
+returns-then-not-alive c = search (if-dead, not-true)
+
+pub returns : goal.returns
+returns c = search (if-live, not-false)

@@ -1,0 +1,13 @@
+use borrow.Author.Tests.{not-true, not-false}
+use Rattle.census_laws.specs.Walks.{file}
+use Rattle.slotwalk.proofs.Laws.{if-dead, if-live}
+use borrow.Author.Rules.{rules}
+use Rattle.slotwalk.proofs.list_file.Goals as goal
+
+pub returns-then-not-alive : goal.returns-then-not-alive
+unfolding file
+returns-then-not-alive c = search (if-dead, not-true)
+
+pub returns : goal.returns
+unfolding file
+returns c = search (if-live, not-false)

@@ -1,0 +1,9 @@
+use Rattle.slotwalk.proofs.Laws.{note-large, note-done}
+use borrow.Author.Rules.{rules}
+use Rattle.slotwalk.proofs.note.Goals as goal
+
+pub returns-then-c-ge65535 : goal.returns-then-c-ge65535
+returns-then-c-ge65535 c = search note-large
+
+pub returns : goal.returns
+returns c = search note-done

@@ -1,0 +1,9 @@
+use Rattle.taking.proofs.Laws.{follows-none, follows-data}
+use borrow.Author.Rules.{rules}
+use Rattle.taking.proofs.may_follow.Goals as goal
+
+pub returns-then-position-eq0 : goal.returns-then-position-eq0
+returns-then-position-eq0 c = search follows-none
+
+pub returns : goal.returns
+returns c = search follows-data

@@ -1,0 +1,6 @@
+use Rattle.taking.proofs.Laws.{plan-made}
+use borrow.Author.Rules.{rules}
+use Rattle.taking.proofs.plan_of.Goals as goal
+
+pub returns : goal.returns
+returns c = search plan-made

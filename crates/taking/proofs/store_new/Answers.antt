@@ -1,0 +1,5 @@
+use borrow.Author.Rules.{rules}
+use Rattle.taking.proofs.store_new.Goals as goal
+
+pub returns : goal.returns
+returns c = cc

@@ -1,0 +1,9 @@
+use Rattle.transfer.proofs.Laws.{closes-writing, closes-other}
+use borrow.Author.Rules.{rules}
+use Rattle.transfer.proofs.close.Goals as goal
+
+pub returns-then-activity-eq2 : goal.returns-then-activity-eq2
+returns-then-activity-eq2 c = search closes-writing
+
+pub returns : goal.returns
+returns c = search closes-other

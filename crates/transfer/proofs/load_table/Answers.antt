@@ -1,0 +1,7 @@
+use Rattle.rules.specs.Transfer.{load_puts}
+use borrow.Author.Rules.{rules}
+use Rattle.transfer.proofs.load_table.Goals as goal
+
+pub returns : goal.returns
+unfolding load_puts
+returns c = cc

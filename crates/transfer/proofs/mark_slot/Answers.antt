@@ -1,0 +1,7 @@
+use Rattle.rules.specs.Transfer.{mark}
+use borrow.Author.Rules.{rules}
+use Rattle.transfer.proofs.mark_slot.Goals as goal
+
+pub returns : goal.returns
+unfolding mark
+returns c = cc

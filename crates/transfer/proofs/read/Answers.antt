@@ -1,0 +1,9 @@
+use Rattle.transfer.proofs.Laws.{read-load, read-on}
+use borrow.Author.Rules.{rules}
+use Rattle.transfer.proofs.read.Goals as goal
+
+pub returns-then-i-eq0 : goal.returns-then-i-eq0
+returns-then-i-eq0 c = (search read-load, search rules)
+
+pub returns : goal.returns
+returns c = (search read-on, search rules)

@@ -1,0 +1,7 @@
+use Rattle.rules.specs.Transfer.{sent}
+use borrow.Author.Rules.{rules}
+use Rattle.transfer.proofs.send.Goals as goal
+
+pub returns : goal.returns
+unfolding sent
+returns c = cc

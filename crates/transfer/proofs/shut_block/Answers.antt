@@ -1,0 +1,7 @@
+use Rattle.rules.specs.Transfer.{shut}
+use borrow.Author.Rules.{rules}
+use Rattle.transfer.proofs.shut_block.Goals as goal
+
+pub returns : goal.returns
+unfolding shut
+returns c = cc
