@@ -1,0 +1,6 @@
+use Rattle.flex.proofs.Hosting.{extending}
+use borrow.Author.Rules.{rules}
+use Rattle.flex.proofs.flex_extension.Goals as goal
+
+pub returns : goal.returns
+returns c = search extending

@@ -1,0 +1,6 @@
+use Rattle.flex.proofs.Hosting.{presetting}
+use borrow.Author.Rules.{rules}
+use Rattle.flex.proofs.flex_preset.Goals as goal
+
+pub returns : goal.returns
+returns c = search presetting
