@@ -1,6 +1,8 @@
 // Leaves over byte slices: a byte, a number of two bytes, runs of bytes, read and stored at a place. All that are public are total:
 // past the end a byte reads as 0, and nothing is stored. A run is passed on as a part of its slice, and its loop has an index of
 // its own.
+#![tactic(auto)]
+
 ghost use Rattle.std.specs.Prelude.{◌≡◌, ◌+◌, ◌≤◌, get_or, length, take};
 ghost use Rattle.rules.specs.Bytes.{word_at, part, over, one, two, six, zeros};
 

@@ -1,4 +1,5 @@
 // What the census's passes answer: the definitions and laws in specs/ share it with the code. No function stands here.
+#![tactic(auto)]
 
 // What a list has come to: so many numbers, or a chain is not right.
 #[derive(Clone, Copy)]

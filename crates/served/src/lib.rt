@@ -1,1 +1,2 @@
 // From the promises of the exported entries to the service that the demands speak of: theorems, see specs/. No function stands here.
+#![tactic(auto)]

@@ -1,5 +1,4 @@
 use Rattle.cells.proofs.Laws.{copied_none, copied-rest, copied-part}
-use borrow.Author.Rules.{rules}
 use Rattle.cells.proofs.copy.Goals as goal
 
 pub returns-then-src-from : goal.returns-then-src-from

@@ -1,5 +1,4 @@
 use Rattle.laws.specs.Bytes.{byte-out-from, byte-out-past}
-use borrow.Author.Rules.{rules}
 use Rattle.cells.proofs.get_in.Goals as goal
 
 pub returns-then-s-at : goal.returns-then-s-at

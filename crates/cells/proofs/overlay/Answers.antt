@@ -1,7 +1,6 @@
-use mathlib.Core.Path.{◌≡◌, refl}
-use Prim.Native.Nat.{◌-◌, ◌≤◌}
+use mathlib.Core.Path.{refl}
 use native.Mathlib.Omega.{arith}
-use lib.ListN.{length, take, length-set}
+use lib.ListN.{length-set}
 use Rattle.cells.proofs.Laws.{laid_more, laid-all}
 use borrow.Author.Rules.{rules}
 use Rattle.cells.proofs.overlay.Goals as goal

@@ -1,6 +1,5 @@
 use mathlib.Core.Path.{sym}
 use Rattle.laws.specs.Bytes.{over-one, over-out}
-use borrow.Author.Rules.{rules}
 use Rattle.cells.proofs.put.Goals as goal
 
 pub returns-then-at-s : goal.returns-then-at-s

@@ -1,7 +1,6 @@
 use mathlib.Core.Path.{sym}
 use Rattle.laws.specs.Bytes.{over-out}
 use Rattle.cells.proofs.Laws.{two-stored}
-use borrow.Author.Rules.{rules}
 use Rattle.cells.proofs.put2.Goals as goal
 
 pub returns-then-dst-at : goal.returns-then-dst-at

@@ -1,5 +1,4 @@
 use Rattle.rules.specs.Bytes.{six}
-use borrow.Author.Rules.{rules}
 use Rattle.cells.proofs.put6.Goals as goal
 
 pub returns : goal.returns

@@ -1,7 +1,6 @@
 use Rattle.cells.proofs.Laws.{laid-rest, laid-part}
 use mathlib.Core.Path.{sym}
 use Rattle.laws.specs.Bytes.{over-out}
-use borrow.Author.Rules.{rules}
 use Rattle.cells.proofs.store.Goals as goal
 
 pub returns-then-dst-at : goal.returns-then-dst-at

@@ -1,10 +1,7 @@
-use mathlib.Core.Path.{◌≡◌, refl}
-use Prim.Native.Nat.{◌-◌, ◌≤◌}
+use mathlib.Core.Path.{refl}
 use native.Mathlib.Omega.{arith}
-use lib.ListN.{length, take, length-set}
-use Rattle.rules.specs.Bytes.{zeros}
+use lib.ListN.{length-set}
 use Rattle.cells.proofs.Laws.{wiped-more, wiped-all}
-use borrow.Author.Rules.{rules}
 use Rattle.cells.proofs.wipe.Goals as goal
 
 pub loop-i-init : goal.loop-i-init
