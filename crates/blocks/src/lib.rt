@@ -1,5 +1,6 @@
 // Control blocks: is a slot in use by one of them? The entries preset and default extension.
 #![tactic(auto)]
+
 ghost use Rattle.std.specs.Prelude.{◌≡◌, [], ◌+◌, ◌*◌, ◌<◌, get_or};
 ghost use Rattle.rules.specs.Bytes.{part, over, one, same};
 ghost use Rattle.rules.specs.Directory.{place_of};

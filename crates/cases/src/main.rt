@@ -28,6 +28,7 @@
 // A line that begins with `?` says what is wrong: a word that is none of these, or a file that is empty, that has more than 65,536 bytes,
 // that cannot be opened, or that cannot be read. The last five arguments are wrong on purpose, one for each of these.
 #![tactic(auto)]
+
 mod ask;
 mod command;
 mod line;

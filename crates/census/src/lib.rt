@@ -1,5 +1,6 @@
 // The census: order 41, 40, 42 to 46, and the lists of sectors and owners of a diskette that is in order.
 #![tactic(auto)]
+
 ghost use Rattle.std.specs.Prelude.{◌≡◌, ◌*◌, length};
 ghost use Rattle.rules.specs.Bytes.{over};
 ghost use Rattle.rules.specs.Image.{free_count};

@@ -1,5 +1,6 @@
 // The census program on a free chain whose last sector is not the stated one. crates/census_tool/images.py wrote `stdin`.
 #![tactic(auto)]
+
 fn main() {
     census_tool::run();
 }

@@ -1,5 +1,6 @@
 // The census program on five sectors in chains, one of them twice and one not at all. crates/census_tool/images.py wrote `stdin`.
 #![tactic(auto)]
+
 fn main() {
     census_tool::run();
 }

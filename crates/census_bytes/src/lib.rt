@@ -1,5 +1,6 @@
 // The census with its outputs as bytes, two an entry, high byte first: as a host program gets it.
 #![tactic(auto)]
+
 ghost use Rattle.std.specs.Prelude.{◌≡◌, ◌*◌, ◌≤◌, true, length};
 ghost use Rattle.rules.specs.Bytes.{over};
 ghost use Rattle.rules.specs.Image.{shape_right, last_track, per_track};

@@ -1,5 +1,6 @@
 // What the census program prints, and the program: it reads an image from standard input and writes the census to standard output.
 #![tactic(auto)]
+
 ghost use Rattle.std.specs.Prelude.{◌≡◌, ◌+◌, ◌*◌, ◌≤◌, ◌<◌, length};
 ghost use Rattle.rules.specs.Text.{digit, decimal, line, lines, report, printed};
 ghost use Rattle.rules.specs.Bytes.{over, zeros};

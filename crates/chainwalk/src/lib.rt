@@ -1,5 +1,6 @@
 // Chains walked by links, each sector's number stored in an output on the way. All are total.
 #![tactic(auto)]
+
 ghost use Rattle.std.specs.Prelude.{◌≡◌, ◌*◌};
 ghost use Rattle.rules.specs.Image.{data_number};
 ghost use Rattle.census_laws.specs.Walks.{laid, walk, chain_at};

@@ -1,6 +1,7 @@
 // The directory: the walk over its sectors, one scan of its slots for a name and for a vacancy, places of slots.
 // A directory sector is its index, a slot where it begins in the image.
 #![tactic(auto)]
+
 ghost use Rattle.std.specs.Prelude.{◌≡◌, ◌++◌, ◌+◌, ◌*◌, ◌≤◌, ◌<◌, get_or};
 ghost use Rattle.rules.specs.Bytes.{word_at, part, over, one, two, same};
 ghost use Rattle.rules.specs.Directory.{is_directory, step_to, next_of, most_of_directory, directory_right, directory, slots, live, named, scan, find, vacancy, member, placed, place_of};

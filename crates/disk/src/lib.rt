@@ -1,5 +1,6 @@
 // The image as a diskette: its shape, the addresses of sectors, the information record, sectors loaded and stored. All are total.
 #![tactic(auto)]
+
 ghost use Rattle.std.specs.Prelude.{◌≡◌, [], ◌∷◌, ◌+◌, ◌*◌, ◌≤◌};
 ghost use Rattle.rules.specs.Bytes.{part, over, six};
 ghost use Rattle.rules.specs.Stores.{store, stored};

@@ -1,5 +1,6 @@
 // A directory entry by value: loaded from a slot, made for a new file, stored.
 #![tactic(auto)]
+
 ghost use Rattle.std.specs.Prelude.{◌≡◌, ◌≤◌};
 ghost use Rattle.rules.specs.Bytes.{part, over};
 ghost use Rattle.rules.specs.Directory.{attributes_at};

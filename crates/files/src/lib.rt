@@ -1,6 +1,7 @@
 // The functions on whole files and on the directory: open for reading and for writing, rewind, open directory, next slot, read
 // sector, delete, rename, on the block that begins at f. Each loads, tests in the rules' order and stores; byte 1 is the last store.
 #![tactic(auto)]
+
 ghost use Rattle.std.specs.Prelude.{◌≡◌, []};
 ghost use Rattle.rules.specs.Bytes.{zeros, same};
 ghost use Rattle.rules.specs.Stores.{stored, puts};

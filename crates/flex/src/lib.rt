@@ -1,6 +1,7 @@
 // The seven entries as a host program in C or Rust reaches them: numbers and byte slices, each slice a pointer and its length.
 // Nothing else stands here; the prototypes are in host/flex.h. What each promises is a predicate of specs/Promised.antt.
 #![tactic(auto)]
+
 ghost use Rattle.flex.specs.Promised.{PresetPromise, ExtensionPromise, CallPromise, CensusPromise, TextPromise, FormatPromise, RepairPromise};
 
 // Preset: the answer.

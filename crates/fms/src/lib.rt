@@ -1,5 +1,6 @@
 // The FMS call: the checks that every call makes in order, and the function that a block asks for.
 #![tactic(auto)]
+
 ghost use Rattle.std.specs.Prelude.{◌≡◌, [], ◌+◌, ◌*◌, ◌<◌};
 ghost use Rattle.rules.specs.Outcome.{out, left, settled, refuse};
 ghost use Rattle.rules.specs.Block.{block_at};

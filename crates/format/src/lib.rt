@@ -1,5 +1,6 @@
 // A blank diskette, stored into a lent image sector by sector: each is written from a cleared block of 256 bytes.
 #![tactic(auto)]
+
 ghost use Rattle.std.specs.Prelude.{◌≡◌, ◌+◌, ◌*◌, ◌≤◌, ◌<◌, length};
 ghost use Rattle.rules.specs.Bytes.{over};
 ghost use Rattle.rules.specs.Stores.{puts};

@@ -1,5 +1,6 @@
 // The error text: a number given back, as a line of text.
 #![tactic(auto)]
+
 ghost use Rattle.std.specs.Prelude.{◌≡◌};
 ghost use Rattle.rules.specs.Bytes.{over};
 ghost use Rattle.rules.specs.Outcome.{told};

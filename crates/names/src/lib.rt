@@ -1,5 +1,6 @@
 // Legal names: the classes of their bytes, by ranges of a byte, and the test of the eleven bytes of name and extension.
 #![tactic(auto)]
+
 ghost use Rattle.std.specs.Prelude.{◌≡◌, ◌+◌, ◌≤◌};
 ghost use Rattle.rules.specs.Bytes.{part};
 ghost use Rattle.rules.specs.Names.{is_letter, is_digit, is_name_byte, all_zero, goes_on, is_word, legal};

@@ -1,6 +1,7 @@
 // Leaves over the census's outputs, slices of 16-bit numbers: a number stored, a run of equal numbers, marks. All are total:
 // past the end nothing is stored.
 #![tactic(auto)]
+
 ghost use Rattle.std.specs.Prelude.{◌≡◌, ◌+◌, length, get_or, replicate};
 ghost use Rattle.rules.specs.Bytes.{over, one, zeros};
 ghost use Rattle.census_laws.specs.Marks.{marked, marking};

@@ -1,6 +1,7 @@
 // Raw writing, for service staff: put slot and write sector, on the block that begins at f. What the block holds is stored as it is:
 // neither looks at names, use or protection. Each loads, tests in the rules' order and stores; byte 1 is the last store.
 #![tactic(auto)]
+
 ghost use Rattle.std.specs.Prelude.{◌≡◌};
 ghost use Rattle.rules.specs.Outcome.{out, left, settled};
 ghost use Rattle.rules.specs.Files.{put_slot, write_sector};

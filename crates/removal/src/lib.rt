@@ -1,5 +1,6 @@
 // Delete's last part: an entry's chain is hung behind the free chain, unwalked, and its slot marked, once no other test refuses it.
 #![tactic(auto)]
+
 ghost use Rattle.std.specs.Prelude.{◌≡◌, [], ◌∷◌, ◌++◌, ◌+◌, ◌≤◌, eqb};
 ghost use Rattle.rules.specs.Bytes.{pick, one};
 ghost use Rattle.rules.specs.Stores.{stored, put, puts};

@@ -1,6 +1,7 @@
 // Repair, in the lent image: a mark for each data sector that is the directory's or that a file keeps; the files slot by slot, then the
 // free chain from the last sector down.
 #![tactic(auto)]
+
 ghost use Rattle.std.specs.Prelude.{◌≡◌, true, ◌+◌, ◌*◌, ◌<◌, ◌≤◌, length, eqb, ltb};
 ghost use Rattle.rules.specs.Bytes.{pick};
 ghost use Rattle.rules.specs.Image.{most_tracks, most_sectors};

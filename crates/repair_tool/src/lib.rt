@@ -1,6 +1,7 @@
 // What the repair program prints, and the program: it reads an image from standard input, and writes to standard output the census of the
 // image as it was, repair's answer, and the census of the image as repair left it.
 #![tactic(auto)]
+
 ghost use Rattle.std.specs.Prelude.{◌≡◌, ◌≤◌, length};
 ghost use Rattle.rules.specs.Bytes.{over};
 ghost use Rattle.rules.specs.Outcome.{left_of};

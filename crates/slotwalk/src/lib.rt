@@ -1,6 +1,7 @@
 // Passes over the directory: its sectors, one behind the other, of which it lists those that are data sectors; and its slots, one behind
 // the other: names, files' chains, owners. All are total.
 #![tactic(auto)]
+
 ghost use Rattle.std.specs.Prelude.{◌≡◌, false, ◌<◌};
 ghost use Rattle.rules.specs.Bytes.{pick, part, over, same};
 ghost use Rattle.rules.specs.Directory.{live, named, directory, slots, size_at};

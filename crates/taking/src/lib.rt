@@ -1,6 +1,7 @@
 // Taking the first sector off the free chain, for a file or for the directory; and taking a sector for a file that is written: all is
 // loaded first, then tested in 01's order, then stored. A block begins at f; M is `last`, S is `per`.
 #![tactic(auto)]
+
 ghost use Rattle.std.specs.Prelude.{◌≡◌, [], ◌∷◌, ◌+◌, ◌-◌, ◌*◌, ◌/◌, ◌%◌, eqb};
 ghost use Rattle.rules.specs.Bytes.{pick, over, six};
 ghost use Rattle.rules.specs.Stores.{stored, puts};

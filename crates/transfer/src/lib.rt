@@ -1,5 +1,6 @@
 // Function 0, reading and writing a byte, and function 4, close. A block begins at f; M is `last`, S is `per`.
 #![tactic(auto)]
+
 ghost use Rattle.std.specs.Prelude.{◌≡◌, [], ◌∷◌, ◌++◌, ◌+◌, ◌*◌, ◌%◌};
 ghost use Rattle.rules.specs.Bytes.{byte_at, part, over, one};
 ghost use Rattle.rules.specs.Stores.{stored, puts, put};
