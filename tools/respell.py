@@ -6,7 +6,7 @@ usage: python3 tools/respell.py        at the top of the repository
 
 It goes by text: every word that begins with a small letter and has a capital behind a small letter or a digit (`perTrack`, `onNext-all`)
 gets its snake case form, in crates/*/specs, proofs, src and must-fail, in README.md and docs/. None of the kit's words has that form.
-A few names are turned by a list. It says which names fall together in one file.
+Fields and constructors with a dash get an underscore, by a list; a few names more are turned by a list.
 """
 
 import glob
@@ -27,6 +27,14 @@ NAMED = [
     # one word in the old library's spelling
     ("", "getD", "get_or"),
 ]
+
+# Fields and constructors, in snake case. (`most-tracks` and `most-sectors` keep their dash: the constants of those names bound them.)
+FIELDS = """
+each-once in-record in-sector in-slot of-nothing of-record of-link end-small of-front of-head of-slot of-sector format-stated format-refused
+repair-stated repair-refused spares-first spares-all name-length date-length track-low track-high sector-low sector-high image-small table-small
+no-twins not-place in-it same-file flex-preset flex-extension flex-call flex-census flex-error-text flex-format flex-repair
+""".split()
+FIELD = re.compile(r"(?<![A-Za-z0-9_'-])(?:" + "|".join(FIELDS) + r")(?![A-Za-z0-9_'-])")
 
 FILES = ["crates/*/specs/**/*.antt", "crates/*/proofs/**/*.antt", "crates/*/src/**/*.rt", "crates/*/must-fail/*.edit", "README.md", "docs/**/*.md"]
 
@@ -51,7 +59,8 @@ def named(path, text):
 def turned(path, text):
     text = named(path, text)
     text = WORD.sub(snake, text)
-    return AFTER_DOT.sub(snake, text)
+    text = AFTER_DOT.sub(snake, text)
+    return FIELD.sub(lambda m: m.group(0).replace("-", "_"), text)
 
 
 def main():

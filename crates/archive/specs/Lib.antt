@@ -53,7 +53,7 @@ pub record Says (σ : Service) (x y : Machine) (es : List Entry) : Type 0 where
   pub accepted : (xs ys : List ℕ) → Output xs → Output ys → length xs ≡ data_sectors x.img → length ys ≡ data_sectors x.img
       → σ.census y.img xs ys
       ≡ survey 0 (ledger_numbers (per_track_of x) (history (last_track_of x) (per_track_of x) (begun x) es)) (ledger_owners (per_track_of x) (history (last_track_of x) (per_track_of x) (begun x) es))
-  pub each-once : (k : ℕ) → k < data_sectors x.img → tally k (ledger_numbers (per_track_of x) (history (last_track_of x) (per_track_of x) (begun x) es)) ≡ 1
+  pub each_once : (k : ℕ) → k < data_sectors x.img → tally k (ledger_numbers (per_track_of x) (history (last_track_of x) (per_track_of x) (begun x) es)) ≡ 1
   pub no_more : length (ledger_numbers (per_track_of x) (history (last_track_of x) (per_track_of x) (begun x) es)) ≡ data_sectors x.img
 
 -- where a sequence has led: the last start is one, and where the calls since are plain, image, table and log are what the history says
@@ -164,7 +164,7 @@ says-ours x cs s = record {
   table = s.table;
   files = s.files;
   accepted = λ xs ys a b h k. s.accepted xs ys h k;
-  each-once = s.each-once;
+  each_once = s.each_once;
   no_more = s.no_more;
 }
 
@@ -176,7 +176,7 @@ says-by σ s x y es held u = record {
   table = u.table;
   files = u.files;
   accepted = λ xs ys a b h k. s.census y.img xs ys held a b ∙ u.accepted xs ys a b h k;
-  each-once = u.each-once;
+  each_once = u.each_once;
   no_more = u.no_more;
 }
 

@@ -328,7 +328,7 @@ module _ (M S : ℕ) (z : Shape M S) (y : Machine) (a : Ledger) (f : Fine M S y 
     where
       go : Dec (m ≡ n) → Now (asking m b)
       go (yes e) = subst (λ (k : ℕ). Now (asking k b)) (sym e) (grows-own b)
-      go (no e) = subst (λ (h : File). Grows (file a s) h ub) (sym (other-call M S z y a f m b n s hn e (ap opens w)).same-file) (grows_same (file a s) ub)
+      go (no e) = subst (λ (h : File). Grows (file a s) h ub) (sym (other-call M S z y a f m b n s hn e (ap opens w)).same_file) (grows_same (file a s) ub)
 
 -- ---- THE READINGS
 

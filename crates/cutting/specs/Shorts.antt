@@ -229,7 +229,7 @@ call-inside y (asking n b) = (call-lawful y.img y.tab n b).inside
 next_small : (y : Machine) → Small y.img → Small y.tab → (c : Call) → SendsByte c → Small (stored y.img (stores_of in_order y c))
 next_small y s t (setting n i v) h = s
 next_small y s t (extending n c) h = s
-next_small y s t (asking n b) h = (call-lawful y.img y.tab n b).image-small (record { image = s; table = t; byte = h })
+next_small y s t (asking n b) h = (call-lawful y.img y.tab n b).image_small (record { image = s; table = t; byte = h })
 
 -- with all stores made, the image after the call is left
 pub all-comes : (y : Machine) (c : Call) (k : ℕ) → length (stores_of in_order y c) ≤ k → stored y.img (take k (stores_of in_order y c)) ≡ (next flex y c).img

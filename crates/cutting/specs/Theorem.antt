@@ -35,13 +35,13 @@ record Low (x : Machine) : Type 0 where
 low-next : (x : Machine) (c : Call) → SendsByte c → Low x → Low (next flex x c)
 unfolding next outcome
 low-next x (setting n i v) h l =
-    record { image = l.image; table = (preset-quiet x.img x.tab n i v).0.table-small (record { image = l.image; table = l.table; byte = h }) }
+    record { image = l.image; table = (preset-quiet x.img x.tab n i v).0.table_small (record { image = l.image; table = l.table; byte = h }) }
 low-next x (extending n c) h l =
-    record { image = l.image; table = (extension-quiet x.img x.tab n c).0.table-small (record { image = l.image; table = l.table; byte = omega arith }) }
+    record { image = l.image; table = (extension-quiet x.img x.tab n c).0.table_small (record { image = l.image; table = l.table; byte = omega arith }) }
 low-next x (asking n b) h l =
     let w = call-lawful x.img x.tab n b in
     let g : Given x.img x.tab b = record { image = l.image; table = l.table; byte = h } in
-    record { image = w.image-small g; table = w.table-small g }
+    record { image = w.image_small g; table = w.table_small g }
 
 low_run : (cs : List Call) (x : Machine) → Each SendsByte cs → Low x → Low (run flex x cs)
 unfolding run

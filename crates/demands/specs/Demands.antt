@@ -52,10 +52,10 @@ looks code act = pick (eqb code 0) (eqb act 1) (pick (eqb code 4) (pick (eqb act
 -- what follows from the equations of demand 1, below, and is there because it is the user's words
 pub record InWords (σ : Service) : Type 0 where
   -- format has three numbers and repair six, and their refusals change nothing
-  pub format-stated : (img : List ℕ) (w : Wanted) → member (says_of (σ.format img w)) format_numbers ≡ true
-  pub format-refused : (img : List ℕ) (w : Wanted) → says_of (σ.format img w) ≢ 0 → left_of (σ.format img w) ≡ img
-  pub repair-stated : (img tab : List ℕ) → member (says_of (σ.repair img tab)) repair_numbers ≡ true
-  pub repair-refused : (img tab : List ℕ) → says_of (σ.repair img tab) ≢ 0 → left_of (σ.repair img tab) ≡ img
+  pub format_stated : (img : List ℕ) (w : Wanted) → member (says_of (σ.format img w)) format_numbers ≡ true
+  pub format_refused : (img : List ℕ) (w : Wanted) → says_of (σ.format img w) ≢ 0 → left_of (σ.format img w) ≡ img
+  pub repair_stated : (img tab : List ℕ) → member (says_of (σ.repair img tab)) repair_numbers ≡ true
+  pub repair_refused : (img tab : List ℕ) → says_of (σ.repair img tab) ≢ 0 → left_of (σ.repair img tab) ≡ img
   -- a call of a wrong table or number: nothing at all
   pub none : (img tab : List ℕ) (n b : ℕ) → (Lent tab n → ⊥) → σ.call img tab n b ≡ out 13 0 img tab
   -- "Numbers given back": one of the stated numbers; the one, and the byte, that the papers have for this call; 16, 1, 16, 18 / 13 before all else
@@ -276,7 +276,7 @@ pub record Sound (σ : Service) (x : Machine) (cs : List Call) : Type 0 where
   -- the census accepts, and lists what the history has; each data sector once
   pub accepted : (xs ys : List ℕ) → length xs ≡ data_sectors x.img → length ys ≡ data_sectors x.img
       → σ.census (run σ x cs).img xs ys ≡ survey 0 (ledger_numbers (per_track_of x) (told σ x cs)) (ledger_owners (per_track_of x) (told σ x cs))
-  pub each-once : (k : ℕ) → k < data_sectors x.img → tally k (ledger_numbers (per_track_of x) (told σ x cs)) ≡ 1
+  pub each_once : (k : ℕ) → k < data_sectors x.img → tally k (ledger_numbers (per_track_of x) (told σ x cs)) ≡ 1
   pub no_more : length (ledger_numbers (per_track_of x) (told σ x cs)) ≡ data_sectors x.img
   -- the directory's sectors, and its slots, are the history's; the slots of the start stand where they stood, new ones behind them; each slot has its
   -- 24 bytes by the history; whatever is called next, no sector is given back

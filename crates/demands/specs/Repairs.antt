@@ -122,8 +122,8 @@ pub record Repaired (σ : Service) (x : Machine) : Type 0 where
   -- "a file sharing nothing and rightly chained keeps every byte"; so does one that is rightly chained and of which no earlier file keeps a sector; and
   -- on an image that the census accepts every file
   pub spares : (s : ℕ) → LiveFile x s → RightlyChained x s → SharesNothing x s → AsItWas x (mended σ x).img s
-  pub spares-first : (s : ℕ) → LiveFile x s → RightlyChained x s → TakenByNone x s → AsItWas x (mended σ x).img s
-  pub spares-all : Start x → (s : ℕ) → LiveFile x s → AsItWas x (mended σ x).img s
+  pub spares_first : (s : ℕ) → LiveFile x s → RightlyChained x s → TakenByNone x s → AsItWas x (mended σ x).img s
+  pub spares_all : Start x → (s : ℕ) → LiveFile x s → AsItWas x (mended σ x).img s
   -- "each live file keeps the longest start of its chain": its sectors are a start of those that it had, and its bytes of those that it gave
   pub cuts : (s : ℕ) → LiveFile x s → Begins (chain_of x (mended σ x).img s) (chain_of x x.img s) × Begins (bytes_of x (mended σ x).img s) (bytes_of x x.img s)
   -- "the longest start .. that stays on data sectors, meets no sector already kept or held by the directory, and is no longer than its stated size": where

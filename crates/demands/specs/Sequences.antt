@@ -84,7 +84,7 @@ pub record Lasting (σ : Service) (g : Stage) : Type 0 where
   pub begins : Start g.start
   pub back : Plain (past σ g.start g.calls) → ComesBack σ g.start g.calls
   pub sound : Plain (past σ g.start g.calls) → Sound σ g.start g.calls
-  pub each-once : Plain (past σ g.start g.calls) → EachOnce σ (here σ g).img
+  pub each_once : Plain (past σ g.start g.calls) → EachOnce σ (here σ g).img
   pub spares : Plain (past σ g.start g.calls) → Closed (here σ g).tab → (s : ℕ) → LiveFile (here σ g) s → AsItWas (here σ g) (mended σ (here σ g)).img s
 
 -- AFTER ANY SEQUENCE

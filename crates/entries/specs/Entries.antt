@@ -58,8 +58,8 @@ new-bytes tab f = rw (part-all (name_in tab f) 11 (length_part tab (f + 4) 11), 
 
 -- arrays of their lengths, numbers of two bytes: what the struct's types say of every entry
 pub record Sound (e : Entry) : Type 0 where
-  pub name-length : length e.name ≡ 11
-  pub date-length : length e.date ≡ 3
+  pub name_length : length e.name ≡ 11
+  pub date_length : length e.date ≡ 3
   pub start_fits : e.start < 65536
   pub end_fits : e.end < 65536
   pub size_fits : e.size < 65536
@@ -71,8 +71,8 @@ in_bytes : (e : Entry) → Sound e → entry_of (bytes_of e) 0 ≡ e
 unfolding entry_of bytes_of part word_at two
 in_bytes e s =
     rw (
-      part-all e.name 11 s.name-length,
-      part-all e.date 3 s.date-length,
+      part-all e.name 11 s.name_length,
+      part-all e.date 3 s.date_length,
       back e.start s.start_fits,
       back e.end s.end_fits,
       back e.size s.size_fits,

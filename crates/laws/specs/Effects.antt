@@ -85,8 +85,8 @@ pub record Lawful (G : Type 0) (img tab : List ℕ) (f : ℕ) (es : List ℕ) (n
   pub few : length (on_image e) ≤ n
   pub inside : Each (Inside (length img)) (on_image e)
   pub within : G → Each Within (on_block e)
-  pub image-small : G → Small (stored img (on_image e))
-  pub table-small : G → Small (puts tab f (on_block e))
+  pub image_small : G → Small (stored img (on_image e))
+  pub table_small : G → Small (puts tab f (on_block e))
   pub refused : answer e ≢ 0 → Refused tab f e
 
 refused-number : (tab : List ℕ) (f e : ℕ) → Refused tab f (effect e 0 [] (put 1 (one e) ∷ []))
@@ -106,8 +106,8 @@ module _ (img tab : List ℕ) (b f : ℕ) (es : List ℕ) (n : ℕ) where
         few = d.few;
         inside = stores-inside G (length img) ss d.stores;
         within = puts-within G ps d.block;
-        image-small = λ g. small-stored ss img g.image (stores-small G (length img) ss d.stores g);
-        table-small = λ g. small-puts ps tab f g.table (puts-small G ps d.block g);
+        image_small = λ g. small-stored ss img g.image (stores-small G (length img) ss d.stores g);
+        table_small = λ g. small-puts ps tab f g.table (puts-small G ps d.block g);
         refused = r;
       }
 

@@ -132,7 +132,7 @@ module _ (img tab : List ℕ) (f b : ℕ) (z : Shaped img) where
   one-is o p = slot_is img M S z.shape.sectors o p.one_of
 
   slot-inside : (o : ℕ) → IsSlot M S o → 256 * (o / 256) + 256 ≤ N
-  slot-inside o s = sector-inside img z (o / 256) s.sector-high
+  slot-inside o s = sector-inside img z (o / 256) s.sector_high
 
   info-inside : 256 * info_sector + 256 ≤ N
   info-inside = track-inside img z info_sector (omega (arith, z.shape))

@@ -160,16 +160,16 @@ idle-act x h = go (ℕ_discrete x 0)
 pub record Offset (i : ℕ) : Type 0 where
   pub low : 3 ≤ i
   pub high : i < 320
-  pub not-place : (47 ≤ i → i < 50 → ⊥)
+  pub not_place : (47 ≤ i → i < 50 → ⊥)
 
 pub offset-is : (i : ℕ) → presettable i ≡ true → Offset i
 unfolding presettable
 offset-is i h = go (within 3 27 i) refl (within 30 31 i) refl h
   where
     go : (u : Bool) → within 3 27 i ≡ u → (v : Bool) → within 30 31 i ≡ v → pick u true (pick v true (within 53 319 i)) ≡ true → Offset i
-    go true e v f h = let s = within-is 3 27 i e in record { low = omega arith; high = omega arith; not-place = λ x y. omega arith }
-    go false e true f h = let s = within-is 30 31 i f in record { low = omega arith; high = omega arith; not-place = λ x y. omega arith }
-    go false e false f h = let s = within-is 53 319 i h in record { low = omega arith; high = omega arith; not-place = λ x y. omega arith }
+    go true e v f h = let s = within-is 3 27 i e in record { low = omega arith; high = omega arith; not_place = λ x y. omega arith }
+    go false e true f h = let s = within-is 30 31 i f in record { low = omega arith; high = omega arith; not_place = λ x y. omega arith }
+    go false e false f h = let s = within-is 53 319 i h in record { low = omega arith; high = omega arith; not_place = λ x y. omega arith }
 
 pub extension-length : (code : ℕ) → code < 12 → length (get_or extensions code []) ≡ 3
 unfolding extensions
@@ -209,7 +209,7 @@ module _ (M S : ℕ) (z : Shape M S) (img tab : List ℕ) (a : Ledger) (r : Agre
       let k = idle-act (tb tab n 2) hi in
       idle-quiet M S z img tab a r n hn (puts tab (320 * n) (put i (v ∷ []) ∷ [])) (turned tab n (put i (v ∷ []) ∷ []) (omega (arith, p.high)))
       (idle-opens M S z img tab a r n hn k.0 k.1) (puts-off (put i (v ∷ []) ∷ []) tab (320 * n) (320 * n + 2) (omega (arith, p.low)))
-      (tp-same tab (puts tab (320 * n) (put i (v ∷ []) ∷ [])) n (λ j h. puts-off (put i (v ∷ []) ∷ []) tab (320 * n) (320 * n + j) ((λ x y. p.not-place (omega (arith, h)) (omega (arith, h))), tt))))
+      (tp-same tab (puts tab (320 * n) (put i (v ∷ []) ∷ [])) n (λ j h. puts-off (put i (v ∷ []) ∷ []) tab (320 * n) (320 * n + j) ((λ x y. p.not_place (omega (arith, h)) (omega (arith, h))), tt))))
       (λ hi. r))
       (λ hp. r)))
       (λ h8. r))

@@ -23,7 +23,7 @@ use Rattle.chains.specs.Directory.{spot, placed-spot}
 use Rattle.chains.specs.Snoc.{snoc-other, snoc-last, length-snoc}
 use Rattle.laws.specs.Each.{Each}
 use Rattle.laws.specs.Stores.{Within, stored-off, stored_at, puts-off, puts-at}
-use Rattle.chains.specs.Frame.{Frame, framed, in-sector}
+use Rattle.chains.specs.Frame.{Frame, framed, in_sector}
 use Rattle.demands.specs.Ledger.{File, no_file, Block, closed, listing, reading, writing, Ledger, Request, set_block, set_file, with_last, pad_to, shut_block}
 use Rattle.met.specs.Relation.{tb, t2, opens, writes, Holds, Reading, Writing, Listed, Keeps, Agrees, t2-same, tp-same, Turn, step}
 use Rattle.met.specs.Quiet.{turned, on-block, shut-block, alone1, alone2, nobody}
@@ -61,7 +61,7 @@ module _ (M S : ℕ) (z : Shape M S) (img tab : List ℕ) (a : Ledger) (r : Agre
     img' = stored img ws
 
     fill_frame : Frame S a.dir img img' (k ∷ []) s
-    fill_frame = framed M S z.sectors a.dir r.listing s hs img (k ∷ []) ws (in-sector k 4 v kd.0 (secs-off M S z img tab a r s hs k kt) (tally-head k []) (omega (arith, lv)) (λ j b. absurd (omega arith)), tt)
+    fill_frame = framed M S z.sectors a.dir r.listing s hs img (k ∷ []) ws (in_sector k 4 v kd.0 (secs-off M S z img tab a r s hs k kt) (tally-head k []) (omega (arith, lv)) (λ j b. absurd (omega arith)), tt)
 
     off : (p : ℕ) → (256 * k + 4 ≤ p → p < 256 * k + 256 → ⊥) → get_or img' p 0 ≡ get_or img p 0
     off p h = stored-off ws img p ((λ u v. h u (omega (arith, lv))), tt)

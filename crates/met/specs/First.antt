@@ -84,10 +84,10 @@ not-touched code act f i n h = let e : f + i - f ≡ i = omega arith in rw (e, n
 
 in_words : InWords flex
 in_words = record {
-  format-stated = λ img w. (formatted img w).answers;
-  format-refused = λ img w h. (formatted img w).kept h;
-  repair-stated = λ img tab. (repaired img tab).answers;
-  repair-refused = λ img tab h. (repaired img tab).kept h;
+  format_stated = λ img w. (formatted img w).answers;
+  format_refused = λ img w h. (formatted img w).kept h;
+  repair_stated = λ img tab. (repaired img tab).answers;
+  repair_refused = λ img tab h. (repaired img tab).kept h;
   none = λ img tab n b h. ap (leaves img tab n) (call-wrong img tab n b (λ t k. h (record { table = t; block = k })));
   stated = λ img tab n b. (call-lawful img tab n b).answers;
   exact = λ img tab n b. (refl, refl);

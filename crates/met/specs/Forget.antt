@@ -271,8 +271,8 @@ module _ (M S : ℕ) where
         l' = lies k' h'
 
         go : (j : ℕ) → j < 2 → LikeByte M S (30 + j) (get_or (two (adr S k)) j 0) (get_or (two (adr S k')) j 0)
-        go zero b = track refl l.track-low l.track-high l'.track-low l'.track-high
-        go (suc zero) b = sector refl l.sector-low l.sector-high l'.sector-low l'.sector-high
+        go zero b = track refl l.track_low l.track_high l'.track_low l'.track_high
+        go (suc zero) b = sector refl l.sector_low l.sector_high l'.sector_low l'.sector_high
         go (suc (suc j)) b = absurd (omega arith)
 
     -- two bytes of which the one is of an address, as a track or a sector number

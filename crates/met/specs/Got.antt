@@ -139,7 +139,7 @@ module _ (M S : ℕ) (z : Shape M S) where
 
     kept_by : (a' : Ledger) → Untouched a a' n s → At a' n s p l
     kept_by a' u =
-        record { j = t.j; i = t.i; reader = u.same_block ∙ t.reader; pos = t.pos; bytes = ap (λ (y : File). concat y.body) u.same-file ∙ t.bytes }
+        record { j = t.j; i = t.i; reader = u.same_block ∙ t.reader; pos = t.pos; bytes = ap (λ (y : File). concat y.body) u.same_file ∙ t.bytes }
 
     other : (m b : ℕ) → m ≢ n → Now (asking m b)
     other m b ne =

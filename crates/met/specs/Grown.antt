@@ -20,7 +20,7 @@ use Rattle.chains.specs.Addresses.{adr-zero}
 use Rattle.chains.specs.Chain.{Seg, seg-hang, tally-last, pieces, pieces-same, pieces-append}
 use Rattle.chains.specs.Data.{sector-small}
 use Rattle.chains.specs.Walk.{data_of, data-snoc}
-use Rattle.chains.specs.Frame.{Address, of-record, of-link}
+use Rattle.chains.specs.Frame.{Address, of_record, of_link}
 use Rattle.chains.specs.Directory.{listing-more, slot_at, slots-snoc, spot}
 use Rattle.demands.specs.Ledger.{File, no_file, Block, closed, Ledger, secs_of, unused_slot, unused_slots}
 use Rattle.met.specs.Relation.{opens, writes, Holds, Keeps, Agrees, holds_same, long}
@@ -234,14 +234,14 @@ module _ (M S : ℕ) (z : Shape M S) (img tab : List ℕ) (a : Ledger) (r : Agre
       )
 
   small-now : (p : ℕ) → Address p → get_or img' p 0 < 256
-  small-now p (of-record u v) = omega (arith, record-now (p - 541) p (omega arith) (omega arith), (small-six (adr S (first fr 0)) (adr S (last_of fr 0)) (length fr)).at (p - 541))
-  small-now p (of-link j i u v q) = go (ℕ_discrete j k) (ℕ_discrete j last)
+  small-now p (of_record u v) = omega (arith, record-now (p - 541) p (omega arith) (omega arith), (small-six (adr S (first fr 0)) (adr S (last_of fr 0)) (length fr)).at (p - 541))
+  small-now p (of_link j i u v q) = go (ℕ_discrete j k) (ℕ_discrete j last)
     where
       go : Dec (j ≡ k) → Dec (j ≡ last) → get_or img' p 0 < 256
       go (yes e) t = omega (arith, nought i p (omega arith) (λ x y. omega arith) (omega arith))
       go (no e) (yes t) = omega (arith, link-byte i p v (omega arith), (small-two (adr S k)).at i)
       go (no e) (no t) =
-          omega (arith, keep p (λ x y. omega arith) (λ x y. omega (arith, e)) (λ x y. omega (arith, t)), r.small p (of-link j i u v q))
+          omega (arith, keep p (λ x y. omega arith) (λ x y. omega (arith, e)) (λ x y. omega (arith, t)), r.small p (of_link j i u v q))
 
   -- THE STEP: with whatever table and blocks fit the longer directory
   pub grown-agrees : (table : List ℕ) (bs : List Block) (fs : List (List ℕ)) → length table ≡ 2560 → length bs ≡ 8

@@ -13,7 +13,7 @@ use Rattle.chains.specs.Addresses.{absurd-bool}
 use Rattle.chains.specs.Chain.{Chain, pieces, pieces-same, chain_same}
 use Rattle.chains.specs.Directory.{Spot, spot, spot-sector}
 use Rattle.laws.specs.Stores.{stored-off, stored_at}
-use Rattle.chains.specs.Frame.{Frame, framed, in-slot}
+use Rattle.chains.specs.Frame.{Frame, framed, in_slot}
 use Rattle.demands.specs.Ledger.{File, no_file, Block, closed, Ledger, set_file, with_mark}
 use Rattle.met.specs.Relation.{opens, writes, Holds, Keeps, Agrees, Turn, step}
 use Rattle.met.specs.Sectors.{free_off}
@@ -60,7 +60,7 @@ module _ (M S : ℕ) (z : Shape M S) (img tab : List ℕ) (a : Ledger) (r : Agre
     slot_at j p h e = stored_at ws img 0 j p (omega arith) h (omega arith) (omega (arith, slot-in)) tt
 
     pub slot-frame : Frame S a.dir img (stored img ws) [] s
-    slot-frame = framed M S z.sectors a.dir r.listing s hs img [] ws (in-slot (o / 256) (o % 256 + i) vs (omega arith) (omega arith), tt)
+    slot-frame = framed M S z.sectors a.dir r.listing s hs img [] ws (in_slot (o / 256) (o % 256 + i) vs (omega arith) (omega arith), tt)
 
     pub slot-free : Chain S (stored img ws) 541 a.free
     slot-free =

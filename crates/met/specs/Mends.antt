@@ -139,7 +139,7 @@ all-files S m (o ∷ os) = ap (λ (l : List ℕ). sectors_at S m o ++ l) (all-fi
 pub record Among (n k : ℕ) (ls : List (List ℕ)) : Type 0 where
   pub place : ℕ
   pub below : place < n
-  pub in-it : 1 ≤ tally k (get_or ls place [])
+  pub in_it : 1 ≤ tally k (get_or ls place [])
 
 among : (n k : ℕ) (ls : List (List ℕ)) → 1 ≤ tally k (all_of (take n ls)) → Among n k ls
 among zero k ls h = absurd (omega arith)
@@ -149,8 +149,8 @@ among (suc n) k (l ∷ ls) h = go (tally k l) refl (λ e. among n k ls (omega (a
     go : (c : ℕ) → tally k l ≡ c → (tally k l ≡ 0 → Among n k ls) → Among (suc n) k (l ∷ ls)
     go zero e ih =
         let w = ih e in
-        record { place = suc w.place; below = omega (arith, w.below); in-it = w.in-it }
-    go (suc c) e ih = record { place = 0; below = omega arith; in-it = omega (arith, e) }
+        record { place = suc w.place; below = omega (arith, w.below); in_it = w.in_it }
+    go (suc c) e ih = record { place = 0; below = omega arith; in_it = omega (arith, e) }
 
 -- ---- after 0
 
@@ -246,12 +246,12 @@ module _ (x : Machine) (small : Small x.img) (e : repairs flex x ≡ 0) where
 
   kept-up-to : (s k : ℕ) → s < length (slots x.img M S) → Among (suc s) k (kept_in x.img M S) → KeptUpTo flex x s k
   kept-up-to s k b w =
-      let o = reached w.place k (omega (arith, w.below, b)) (member-in k (get_or (kept_in x.img M S) w.place []) w.in-it) in
+      let o = reached w.place k (omega (arith, w.below, b)) (member-in k (get_or (kept_in x.img M S) w.place []) w.in_it) in
       record {
         slot = w.place;
         upto = omega (arith, w.below);
         file = o.0;
-        has = rw (made, (left w.place o.0).chain) (member-in k (get_or (kept_in x.img M S) w.place []) w.in-it);
+        has = rw (made, (left w.place o.0).chain) (member-in k (get_or (kept_in x.img M S) w.place []) w.in_it);
       }
 
   longest : (s : ℕ) → LiveFile x s → (l : List ℕ) → l ≡ get_or (kept_in x.img M S) s [] → length l < size_at x.img (place_in x s) → is_data M S (next_of x s l) ≡ true
@@ -320,8 +320,8 @@ module _ (x : Machine) (small : Small x.img) (e : repairs flex x ≡ 0) where
   mended-well = record {
     begins = begins;
     spares = λ s f h t. taken-by-none s f h (taken s f t);
-    spares-first = taken-by-none;
-    spares-all = λ st s f. as_it_was s f (spared-sound M S x.img ready (start-sane x st) s f.slot f.alive);
+    spares_first = taken-by-none;
+    spares_all = λ st s f. as_it_was s f (spared-sound M S x.img ready (start-sane x st) s f.slot f.alive);
     cuts = λ s f. (
       rw (made, (left s f).chain) (take_begins (length (get_or (kept_in x.img M S) s [])) _ _ (left s f).sectors),
       rw (made, (left s f).chain) (take_begins (252 * length (get_or (kept_in x.img M S) s [])) _ _ (left s f).bytes),

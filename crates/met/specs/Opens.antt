@@ -260,15 +260,15 @@ module _ (M S : ℕ) (z : Shape M S) (img tab : List ℕ) (a : Ledger) (r : Agre
     l24' : 0 + length ne ≤ 24
     l24' = omega (arith, l24)
 
-    in-slot : (i x : ℕ) → i < 24 → p + i ≡ x → get_or img' x 0 ≡ get_or ne i 0
-    in-slot i x b q = slot_at M S z img tab a r s hs 0 ne l24' i x (omega (arith, l24)) (omega arith)
+    in_slot : (i x : ℕ) → i < 24 → p + i ≡ x → get_or img' x 0 ≡ get_or ne i 0
+    in_slot i x b q = slot_at M S z img tab a r s hs 0 ne l24' i x (omega (arith, l24)) (omega arith)
 
     pub open-write : Agrees M S (stored img (store (p / 256) (p % 256) ne ∷ [])) (puts tab (320 * n) (ps M S z img tab a r n hn 2 p ne l24)) (set_file a s made n (writing s []))
     open-write =
         let shut : (n' : ℕ) → n' < 8 → n' ≢ n → opens (get_or a.blocks n' closed) ≢ suc s = λ n' h e. dead-shut M S z img tab a r n' h s dead in
         subst (λ (x : ℕ). Agrees M S (stored img (store (p / 256) x ne ∷ [])) (tab' M S z img tab a r n hn 2 p ne l24) (set_file a s made n (writing s []))) (omega arith)
         (step M S z img tab a r img' (tab' M S z img tab a r n hn 2 p ne l24) [] a.free a.spare n s made (writing s []) hn hs
-        (slot-frame M S z img tab a r s hs 0 ne l24') (open_turn M S z img tab a r n hn 2 p ne l24) (slot-free M S z img tab a r s hs 0 ne l24') (slot-spare M S z img tab a r s hs 0 ne l24') (holds-made alive img' p in-slot (get_or a.slots s no_file).at (r.holds s hs).at)
+        (slot-frame M S z img tab a r s hs 0 ne l24') (open_turn M S z img tab a r n hn 2 p ne l24) (slot-free M S z img tab a r s hs 0 ne l24') (slot-spare M S z img tab a r s hs 0 ne l24') (holds-made alive img' p in_slot (get_or a.slots s no_file).at (r.holds s hs).at)
         (subst (λ (g : File). Writing S (slots_of a.dir) (tab' M S z img tab a r n hn 2 p ne l24) n g s []) (sym (get_or-set_same a.slots s made no_file (omega (arith, r.ns, hs)))) (keeps-made alive (slots_of a.dir) s p hs refl (get_or a.slots s no_file).at))
         (λ x h. absurd (omega arith)) (λ x. omega (arith, ap (tally x) ((r.holds s hs).dead dead))) shut
         (λ n' h e w q. shut n' h e (sym q))

@@ -27,7 +27,7 @@ use Rattle.chains.specs.Moves.{hung-on}
 use Rattle.laws.specs.Small.{small-two, small-six}
 use Rattle.laws.specs.Each.{Each}
 use Rattle.laws.specs.Stores.{Within, stored-off, stored_at, puts-off}
-use Rattle.chains.specs.Frame.{Frame, framed, Lies, in-record, in-sector, in-slot, of-nothing}
+use Rattle.chains.specs.Frame.{Frame, framed, Lies, in_record, in_sector, in_slot, of_nothing}
 use Rattle.demands.specs.Ledger.{File, no_file, Block, closed, Ledger, denied, granted, Sought, nowhere, slot, on_sought, file_named, busy, attributes, set_file, set_free, with_mark, with_name, joined, entry_of, deleted, renamed, request}
 use Rattle.met.specs.Relation.{t2, opens, Holds, Keeps, Agrees, tp-same, Turn, step, long}
 use Rattle.met.specs.Quiet.{turned, shut-writes, idle-kept}
@@ -106,16 +106,16 @@ module _ (M S : ℕ) (z : Shape M S) (img tab : List ℕ) (a : Ledger) (r : Agre
 
     link-lies : Dec (length fr ≡ 0) → Lies S a.dir fr o (store (last_of fr 0) 0 lk)
     unfolding two
-    link-lies (yes q) = rw (eq-eqb (length fr) 0 q) (of-nothing (last_of fr 0) 0)
+    link-lies (yes q) = rw (eq-eqb (length fr) 0 q) (of_nothing (last_of fr 0) 0)
     link-lies (no q) =
         let e : lk ≡ two (adr S (first l 0)) = rw (ne_eqb (length fr) 0 q) refl in
         let t : length lk ≡ 2 = ap length e in
-        in-sector (last_of fr 0) 0 lk (ql (omega arith)) (qoff (omega arith)) (tally-last fr 0 (omega arith)) (omega (arith, t))
+        in_sector (last_of fr 0) 0 lk (ql (omega arith)) (qoff (omega arith)) (tally-last fr 0 (omega arith)) (omega (arith, t))
         (λ j b. subst (λ (x : List ℕ). get_or x j 0 < 256) (sym e) ((small-two (adr S (first l 0))).at j))
 
     frame : Frame S a.dir img img' fr s
     unfolding six one
-    frame = framed M S z.sectors a.dir r.listing s hs img fr hang_s (link-lies (ℕ_discrete (length fr) 0), (in-record _ refl (small-six (adr S (first (fr ++ l) 0)) (adr S (last_of l 0)) (length fr + length l)), (in-slot (o / 256) (o % 256) _ (omega arith) (omega arith), tt)))
+    frame = framed M S z.sectors a.dir r.listing s hs img fr hang_s (link-lies (ℕ_discrete (length fr) 0), (in_record _ refl (small-six (adr S (first (fr ++ l) 0)) (adr S (last_of l 0)) (length fr + length l)), (in_slot (o / 256) (o % 256) _ (omega arith) (omega arith), tt)))
 
     l-data : AllData M S l
     l-data = secs-data M S z img tab a r s hs
@@ -153,7 +153,7 @@ module _ (M S : ℕ) (z : Shape M S) (img tab : List ℕ) (a : Ledger) (r : Agre
           end = ap (adr S) (sym (last-append fr l 0 some));
           size = sym (length-append fr l);
           start_small = start_small fr (free-data M S z img tab a r);
-          end-small = last-small M S z l l-data;
+          end_small = last-small M S z l l-data;
           size_small = omega (arith, few M S z img tab a r s hs);
           bytes = λ i p b q. stored_at hang_s img 1 i p (omega arith) (omega arith) (omega arith) (omega (arith, long1)) (omega (arith, olow));
         })

@@ -353,9 +353,9 @@ module _ (M S : ℕ) (z : Shape M S) where
     hb = omega (arith, g.agrees.nb, k.block)
 
     -- in a vacant slot
-    in-slot : (s : ℕ) → vacant_slot a.slots ≡ slot s → Created flex M S x a n s b
+    in_slot : (s : ℕ) → vacant_slot a.slots ≡ slot s → Created flex M S x a n s b
     unfolding performed served within opened_to_write
-    in-slot s space =
+    in_slot s space =
         let nf = new_file (file a s).at (name_of a n) q.date in
         created x a g n s b k i ok (set_file a s nf n (writing s [])) (puts_opened S 2 nf.at (entry_of nf))
         (called_of M S a n q 2 k.function refl k.drive (fits-two (activity (block a n)) i) ∙ (rw (k.function, ok, none, space) refl))
@@ -363,9 +363,9 @@ module _ (M S : ℕ) (z : Shape M S) where
         (get_or-set_same a.slots s nf no_file (seek_found (λ y. vacant y 0) a.slots s space).low))
 
     -- in a sector that the directory gets
-    in-sector : (j : ℕ) (fr : List ℕ) → a.free ≡ j ∷ fr → vacant_slot a.slots ≡ nowhere → Created flex M S x a n (length a.slots) b
+    in_sector : (j : ℕ) (fr : List ℕ) → a.free ≡ j ∷ fr → vacant_slot a.slots ≡ nowhere → Created flex M S x a n (length a.slots) b
     unfolding performed served within opened_to_write
-    in-sector j fr ef space =
+    in_sector j fr ef space =
         let nf = new_file (first_slot_of j) (name_of a n) q.date in
         let us = unused_slots (first_slot_of j + 24) 9 in
         let s = length a.slots in
@@ -379,10 +379,10 @@ module _ (M S : ℕ) (z : Shape M S) where
       where
         go : (v : Sought) → vacant_slot a.slots ≡ v → (fr : List ℕ) → a.free ≡ fr
             → on_sought v (pick (eqb (length fr) 0) nowhere (slot (length a.slots))) (λ t. slot t) ≡ slot s → Created flex M S x a n s b
-        go (slot t) d fr ef e = subst (λ (m : ℕ). Created flex M S x a n m b) (slot_same t s e) (in-slot t d)
+        go (slot t) d fr ef e = subst (λ (m : ℕ). Created flex M S x a n m b) (slot_same t s e) (in_slot t d)
         go nowhere d [] ef e = absurd (slot-not s (sym e))
         go nowhere d (j ∷ fr) ef e =
-            subst (λ (m : ℕ). Created flex M S x a n m b) (slot_same (length a.slots) s (rw (ne_eqb (suc (length fr)) 0 (omega arith)) at e)) (in-sector j fr ef d)
+            subst (λ (m : ℕ). Created flex M S x a n m b) (slot_same (length a.slots) s (rw (ne_eqb (suc (length fr)) 0 (omega arith)) at e)) (in_sector j fr ef d)
 
 -- ---- the demand
 

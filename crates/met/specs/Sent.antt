@@ -134,10 +134,10 @@ length-one-more l b = length-append l (b ∷ [])
 -- a call of another block, a refused one, a preset: block n and its file stay
 pub record Untouched (a a' : Ledger) (n s : ℕ) : Type 0 where
   pub same_block : block a' n ≡ block a n
-  pub same-file : file a' s ≡ file a s
+  pub same_file : file a' s ≡ file a s
 
 pub untouched : (a a' : Ledger) (n s : ℕ) → Likewise a a' → Untouched a a' n s
-untouched a a' n s l = record { same_block = ap (λ (bs : List Block). get_or bs n closed) l.blocks; same-file = ap (λ (fs : List File). get_or fs s no_file) l.slots }
+untouched a a' n s l = record { same_block = ap (λ (bs : List Block). get_or bs n closed) l.blocks; same_file = ap (λ (fs : List File). get_or fs s no_file) l.slots }
 
 module _ (M S : ℕ) (z : Shape M S) where
   module _ (x : Machine) (a : Ledger) (g : Fine M S x a) (n s : ℕ) (nm sent : List ℕ) (hn : n < 8) (w : Wrote a n s nm sent) (q : Request) where
@@ -287,7 +287,7 @@ module _ (M S : ℕ) (z : Shape M S) where
       go : Dec (answers flex x (asking m b) ≡ 0) → Dec (m < 8) → Untouched a (then M S a (entry flex x (asking m b))) n s
       go (no q) h = untouched a (then M S a (entry flex x (asking m b))) n s (likewise-refused M S a m b _ _ q)
       go (yes q) (no h) = absurd (omega (arith, q, beyond M S z x a g m b (omega arith)))
-      go (yes q) (yes h) = let k = other-kept x a g m b n s h hn ne q o in record { same_block = k.0; same-file = k.1 }
+      go (yes q) (yes h) = let k = other-kept x a g m b n s h hn ne q o in record { same_block = k.0; same_file = k.1 }
 
   module _ (x : Machine) (a : Ledger) (g : Fine M S x a) (n s : ℕ) (nm sent : List ℕ) (hn : n < 8) (w : Wrote a n s nm sent) where
     abbrev Now : Call → Type 0
@@ -296,7 +296,7 @@ module _ (M S : ℕ) (z : Shape M S) where
 
     kept_by : (a' : Ledger) → Untouched a a' n s → Wrote a' n s nm (sent ++ [])
     kept_by a' u =
-        let k = u.same-file in
+        let k = u.same_file in
         record {
           left = w.left;
           writer = u.same_block ∙ w.writer;

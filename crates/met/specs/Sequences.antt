@@ -37,18 +37,18 @@ bytes_next : (x : Machine) → Bytes x → (c : Call) → SendsByte c → Bytes 
 unfolding next outcome
 bytes_next x h (setting n i v) k = record {
   image = h.image;
-  table = (preset-quiet x.img x.tab n i v).0.table-small (record { image = h.image; table = h.table; byte = k });
+  table = (preset-quiet x.img x.tab n i v).0.table_small (record { image = h.image; table = h.table; byte = k });
   long = length-puts (on_block (preset x.tab n i v)) x.tab (block_at n) ∙ h.long;
 }
 bytes_next x h (extending n c) k = record {
   image = h.image;
-  table = (extension-quiet x.img x.tab n c).0.table-small (record { image = h.image; table = h.table; byte = omega arith });
+  table = (extension-quiet x.img x.tab n c).0.table_small (record { image = h.image; table = h.table; byte = omega arith });
   long = length-puts (on_block (extension x.tab n c)) x.tab (block_at n) ∙ h.long;
 }
 bytes_next x h (asking n b) k =
     let l = call-lawful x.img x.tab n b in
     let g : Given x.img x.tab b = record { image = h.image; table = h.table; byte = k } in
-    record { image = l.image-small g; table = l.table-small g; long = length-puts (on_block (call x.img x.tab n b)) x.tab (block_at n) ∙ h.long }
+    record { image = l.image_small g; table = l.table_small g; long = length-puts (on_block (call x.img x.tab n b)) x.tab (block_at n) ∙ h.long }
 
 bytes_run : (x : Machine) → Bytes x → (cs : List Call) → Each SendsByte cs → Bytes (run flex x cs)
 unfolding run
@@ -75,8 +75,8 @@ module _ (x : Machine) (s : Start x) (cs : List Call) (p : Plain (past flex x cs
       → census y.img xs ys ≡ survey 0 (ledger_numbers (per_track_of x) (told flex x cs)) (ledger_owners (per_track_of x) (told flex x cs))
   surveyed xs ys h k = census-is (last_track_of x) (per_track_of x) (start-shape x s) y (told flex x cs) f xs ys (h ∙ sectors) (k ∙ sectors)
 
-  each-once : EachOnce flex y.img
-  each-once = record {
+  each_once : EachOnce flex y.img
+  each_once = record {
     accepted = λ xs ys h k. ap survey_answer (surveyed xs ys h k);
     once = λ xs ys h k j b. ap (λ o. tally j (listed_in o)) (surveyed xs ys h k)
         ∙ once-each (last_track_of x) (per_track_of x) (start-shape x s) y (told flex x cs) f j (omega (arith, b, sectors));
@@ -86,7 +86,7 @@ module _ (x : Machine) (s : Start x) (cs : List Call) (p : Plain (past flex x cs
 
   -- with all blocks closed it is a start
   restart : Bytes y → Closed y.tab → Start y
-  restart b c = record { accepted = each-once.accepted _ _ (length-zeros _) (length-zeros _); bytes = b.image; table = b.long; closed = c }
+  restart b c = record { accepted = each_once.accepted _ _ (length-zeros _) (length-zeros _); bytes = b.image; table = b.long; closed = c }
 
 -- a block that the history has closed is closed in the table
 closed-by : (S : ℕ) (os tab : List ℕ) (n : ℕ) (fs : List File) (b : Block) → b ≡ closed → Keeps S os tab n fs b → activity_in tab (320 * n) ≡ 0
@@ -126,18 +126,18 @@ all-lasting (checking ∷ ds) g h p =
 repair-answers : (x : Machine) → Start x → repairs flex x ≡ 0
 repair-answers x s =
     from-repair.accepts x s.table s.closed (shape-true x.img (record { shape = start-shape x s; long = omega (arith, (start-shaped x s).size) }))
-    (start-sane x s).right (start-sane x s).no-twins
+    (start-sane x s).right (start-sane x s).no_twins
 
 lasting : (g : Stage) → Standing g → Lasting flex g
 lasting g h = record {
   begins = h.begins;
   back = λ p. demand2 g.start h.begins g.calls p;
   sound = λ p. demand3 g.start h.begins g.calls p;
-  each-once = λ p. each-once g.start h.begins g.calls p;
+  each_once = λ p. each_once g.start h.begins g.calls p;
   spares = λ p c s v.
       let b = standing-bytes g h in
       let st = restart g.start h.begins g.calls p b c in
-      (from-repair.repaired (here flex g) b.image (repair-answers (here flex g) st)).spares-all st s v;
+      (from-repair.repaired (here flex g) b.image (repair-answers (here flex g) st)).spares_all st s v;
 }
 
 pub lasts : Lasts flex

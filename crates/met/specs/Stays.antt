@@ -317,20 +317,20 @@ module _ (M S : ℕ) (z : Shape M S) (img tab img' tab' : List ℕ) (a a' : Ledg
 
 module _ (M S : ℕ) (z : Shape M S) (img tab img' tab' : List ℕ) (a a' : Ledger) (r : Agrees M S img tab a) (r' : Agrees M S img' tab' a')
     (s : ℕ) (hs : s < length (slots_of a.dir)) (hs' : s < length (slots_of a'.dir)) (stood : get_or (slots_of a'.dir) s 0 ≡ get_or (slots_of a.dir) s 0)
-    (nm : List ℕ) (same-file : file a' s ≡ with_name (file a s) nm) (alive : live (file a s).name 0 ≡ true) (alive-new : live nm 0 ≡ true) where
+    (nm : List ℕ) (same_file : file a' s ≡ with_name (file a s) nm) (alive : live (file a s).name 0 ≡ true) (alive-new : live nm 0 ≡ true) where
   abbrev o : ℕ
   o = get_or (slots_of a.dir) s 0
 
   alive' : live (file a' s).name 0 ≡ true
-  alive' = ap (λ (f : File). live f.name 0) same-file ∙ alive-new
+  alive' = ap (λ (f : File). live f.name 0) same_file ∙ alive-new
 
   pub spared-name : part img' o 11 ≡ nm
-  spared-name = ap (λ (x : ℕ). part img' x 11) (sym stood) ∙ (r'.holds s hs').name ∙ ap (λ (f : File). f.name) same-file
+  spared-name = ap (λ (x : ℕ). part img' x 11) (sym stood) ∙ (r'.holds s hs').name ∙ ap (λ (f : File). f.name) same_file
 
   pub spared-rest : part img' (o + 11) 13 ≡ part img (o + 11) 13
   spared-rest =
       ap (λ (x : ℕ). part img' (x + 11) 13) (sym stood) ∙ rest-is M S z img' tab' a' r' s hs'
-      ∙ ap (λ (f : File). f.mode ++ (f.ends ++ (f.map ++ f.date))) same-file ∙ sym (rest-is M S z img tab a r s hs)
+      ∙ ap (λ (f : File). f.mode ++ (f.ends ++ (f.map ++ f.date))) same_file ∙ sym (rest-is M S z img tab a r s hs)
 
   pub spared-entry : nm ≡ (file a s).name → part img' o 24 ≡ part img o 24
   spared-entry e =
@@ -341,14 +341,14 @@ module _ (M S : ℕ) (z : Shape M S) (img tab img' tab' : List ℕ) (a a' : Ledg
   chain-is = (file-back M S z img tab a r s hs alive).0
 
   pub spared-chain : chain_at S img' (o + 13) ≡ chain_at S img (o + 13)
-  spared-chain = ap (λ (x : ℕ). chain_at S img' (x + 13)) (sym stood) ∙ (file-back M S z img' tab' a' r' s hs' alive').0 ∙ ap (λ (f : File). f.secs) same-file ∙ sym chain-is
+  spared-chain = ap (λ (x : ℕ). chain_at S img' (x + 13)) (sym stood) ∙ (file-back M S z img' tab' a' r' s hs' alive').0 ∙ ap (λ (f : File). f.secs) same_file ∙ sym chain-is
 
   -- sector j, in both
   sector-same : (j : ℕ) → j < length (file a s).secs → part img' (256 * get_or (file a s).secs j 0) 256 ≡ part img (256 * get_or (file a s).secs j 0) 256
   sector-same j h =
-      ap (λ (f : File). part img' (256 * get_or f.secs j 0) 256) (sym same-file)
-      ∙ sector-is M S z img' tab' a' r' s hs' alive' j (omega (arith, h, ap (λ (f : File). length f.secs) same-file))
-      ∙ ap (λ (f : File). two (adr S (get_or f.secs (suc j) 0)) ++ (get_or f.recs j [] ++ get_or f.body j [])) same-file
+      ap (λ (f : File). part img' (256 * get_or f.secs j 0) 256) (sym same_file)
+      ∙ sector-is M S z img' tab' a' r' s hs' alive' j (omega (arith, h, ap (λ (f : File). length f.secs) same_file))
+      ∙ ap (λ (f : File). two (adr S (get_or f.secs (suc j) 0)) ++ (get_or f.recs j [] ++ get_or f.body j [])) same_file
       ∙ sym (sector-is M S z img tab a r s hs alive j h)
 
   pub spared-sectors : pieces 0 256 img' (chain_at S img (o + 13)) ≡ pieces 0 256 img (chain_at S img (o + 13))

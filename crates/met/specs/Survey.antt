@@ -153,8 +153,8 @@ module _ (M S : ℕ) (z : Shape M S) (img : List ℕ) (h : Sized M S img) (small
       two i j ne a b u v w = go (native.Mathlib.Decide.dec_lt i j)
         where
           go : Dec (i < j) → ⊥
-          go (yes l) = twins-sound img (slots_of ds) sane.no-twins i j l b u v w
-          go (no l) = twins-sound img (slots_of ds) sane.no-twins j i (omega (arith, ne, l)) a v u (sym w)
+          go (yes l) = twins-sound img (slots_of ds) sane.no_twins i j l b u v w
+          go (no l) = twins-sound img (slots_of ds) sane.no_twins j i (omega (arith, ne, l)) a v u (sym w)
 
 -- ---- COMPLETE: a ledger that image and table agree with, and that is tidy
 
@@ -233,7 +233,7 @@ module _ (M S : ℕ) (z : Shape M S) (img tab : List ℕ) (a : Ledger) (r : Agre
       let dr = directory-is M S z img a.dir r.listing r.dir in
       record {
         right = dr.0;
-        no-twins =
+        no_twins =
             rw dr.1 (twins-complete img (slots_of a.dir) (λ i j x y u v w. t.apart i j (omega arith) (omega (arith, r.ns)) (omega (arith, r.ns))
             (sym (live_back i (omega arith)) ∙ u) (sym (live_back j y) ∙ v) (sym (r.holds i (omega arith)).name ∙ w ∙ (r.holds j y).name)));
         free = free_back.1;

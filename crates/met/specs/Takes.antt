@@ -25,7 +25,7 @@ use Rattle.chains.specs.Moves.{hung-on}
 use Rattle.laws.specs.Each.{Each}
 use Rattle.chains.specs.Snoc.{length-snoc}
 use Rattle.laws.specs.Stores.{Within, Off, in_image, Piece, begins, bytes_of, none, in_block, stored-off, stored_at, puts-off, puts-at}
-use Rattle.chains.specs.Frame.{Frame, framed, Lies, in-record, in-sector, in-slot, of-nothing}
+use Rattle.chains.specs.Frame.{Frame, framed, Lies, in_record, in_sector, in_slot, of_nothing}
 use Rattle.demands.specs.Ledger.{File, no_file, closed, writing, Ledger, Request, denied, granted, set_free, with_new, taken, transferred}
 use Rattle.met.specs.Relation.{tb, t2, opens, writes, Holds, Writing, Agrees, tp-same, step, long}
 use Rattle.met.specs.Quiet.{turned, alone1, alone2, nobody}
@@ -145,21 +145,21 @@ module _ (M S : ℕ) (z : Shape M S) (img tab : List ℕ) (a : Ledger) (r : Agre
 
   link-lies : Dec (length l ≡ 0) → Lies S a.dir (k ∷ l) o (store (last_of l 0) 0 lk)
   unfolding two
-  link-lies (yes q) = rw (eq-eqb (length l) 0 q) (of-nothing (last_of l 0) 0)
+  link-lies (yes q) = rw (eq-eqb (length l) 0 q) (of_nothing (last_of l 0) 0)
   link-lies (no q) =
       let e : lk ≡ two (adr S k) = rw (ne_eqb (length l) 0 q) refl in
       let t : length lk ≡ 2 = ap length e in
-      in-sector (last_of l 0) 0 lk (ql (omega arith)) (qoff (omega arith)) (omega (arith, tally-last l 0 (omega arith))) (omega (arith, t))
+      in_sector (last_of l 0) 0 lk (ql (omega arith)) (qoff (omega arith)) (omega (arith, tally-last l 0 (omega arith))) (omega (arith, t))
       (λ j b. subst (λ (x : List ℕ). get_or x j 0 < 256) (sym e) ((small-two (adr S k)).at j))
 
   frame : Frame S a.dir img img' (k ∷ l) s
   unfolding six
   frame =
       framed M S z.sectors a.dir r.listing s hs img (k ∷ l) take_s (
-        in-record _ refl (small-six (adr S (first fr 0)) (adr S (last_of fr 0)) (length fr)),
+        in_record _ refl (small-six (adr S (first fr 0)) (adr S (last_of fr 0)) (length fr)),
         (
-          in-sector k 0 (fresh (length l + 1)) klow koff (tally-head k l) (omega (arith, length-fresh (length l + 1))) (λ j b. (small-fresh (length l + 1)).at j),
-          (link-lies (ℕ_discrete (length l) 0), (in-slot (o / 256) (o % 256 + 13) _ (omega arith) (omega arith), tt)),
+          in_sector k 0 (fresh (length l + 1)) klow koff (tally-head k l) (omega (arith, length-fresh (length l + 1))) (λ j b. (small-fresh (length l + 1)).at j),
+          (link-lies (ℕ_discrete (length l) 0), (in_slot (o / 256) (o % 256 + 13) _ (omega arith) (omega arith), tt)),
         ),
       )
 
@@ -235,7 +235,7 @@ module _ (M S : ℕ) (z : Shape M S) (img tab : List ℕ) (a : Ledger) (r : Agre
               end = ap (adr S) (sym (last_snoc l k 0));
               size = sym (length-snoc l k);
               start_small = first_small M S z l' l'-data;
-              end-small = sector-small M S z k (k-data M S z img tab a r k fr ef);
+              end_small = sector-small M S z k (k-data M S z img tab a r k fr ef);
               size_small = omega (arith, lfew);
               bytes = at;
             });

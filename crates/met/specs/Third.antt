@@ -223,7 +223,7 @@ module _ (x : Machine) (s : Start x) where
           image = image-is M S z y.img y.tab h r;
           table = table_is y.tab h.fcbs f.0.formed r.tlen;
           accepted = λ xs ys. census-is M S z y h f.0 xs ys;
-          each-once = once-each M S z y h f.0;
+          each_once = once-each M S z y h f.0;
           no_more = no-others M S z y h f.0;
           sectors = here;
           places = ap slots_of here ∙ at_places h.slots (slots_of h.dir) r.ns (λ i b. (r.holds i b).at);

@@ -141,10 +141,10 @@ pub hasty-ours : (says_of (flex.format pair_image (wanted blank_label)) ≡ 0) �
 unfolding rules paired
 hasty-ours = (refl, refl)
 
--- `format-refused`: a label of no bytes, and the first byte of the image is gone
+-- `format_refused`: a label of no bytes, and the first byte of the image is gone
 pub rash-fails : Demand1 rash → ⊥
 unfolding rules paired
-rash-fails d = differ 0 1 refl (ap (λ m. byte_at m 0) (d.words.format-refused pair_image (wanted []) (differ 40 0 refl)))
+rash-fails d = differ 0 1 refl (ap (λ m. byte_at m 0) (d.words.format_refused pair_image (wanted []) (differ 40 0 refl)))
 
 pub rash-ours : (says_of (flex.format pair_image (wanted [])) ≡ 40) × (byte_at (left_of (flex.format pair_image (wanted []))) 0 ≡ 1)
 unfolding rules paired
@@ -314,10 +314,10 @@ module _ (test : List ℕ → ℕ → Bool) (f : List ℕ → List ℕ → ℕ �
 
   harming-words : InWords (harming test f)
   harming-words = record {
-    format-stated = demand1.words.format-stated;
-    format-refused = demand1.words.format-refused;
-    repair-stated = demand1.words.repair-stated;
-    repair-refused = demand1.words.repair-refused;
+    format_stated = demand1.words.format_stated;
+    format_refused = demand1.words.format_refused;
+    repair_stated = demand1.words.repair_stated;
+    repair_refused = demand1.words.repair_refused;
     none = λ img tab n b h. holds (λ (o : Out). o ≡ out 13 0 img tab) img tab n b (demand1.words.none img tab n b h)
         (λ e. absurd (differ 13 0 refl (sym (ap ans_of (demand1.words.none img tab n b h)) ∙ e)));
     stated = λ img tab n b. holds (λ (o : Out). member (ans_of o) answer_numbers ≡ true) img tab n b (demand1.words.stated img tab n b) (λ e. demand1.words.stated img tab n b);

@@ -182,13 +182,13 @@ pub pretending-ours : (number shared.img ≡ 46) × (number (mended flex shared)
 unfolding rules demands paired
 pretending-ours = (refl, refl)
 
--- `spares-first`: A.TXT is rightly chained, and no file stands before it; the census accepts what the fake leaves
+-- `spares_first`: A.TXT is rightly chained, and no file stands before it; the census accepts what the fake leaves
 pub favouring-fails : FromRepair favouring → ⊥
 unfolding rules demands paired apart untaken
 favouring-fails d =
     differ 1 2 refl
     (ap (λ (m : List ℕ). byte_at m 18)
-    ((d.repaired shared shared-small refl).spares-first 0 (record { slot = omega arith; alive = refl }) refl (taken-by-none shared 0 refl refl)).slot)
+    ((d.repaired shared shared-small refl).spares_first 0 (record { slot = omega arith; alive = refl }) refl (taken-by-none shared 0 refl refl)).slot)
 
 pub favouring-ours : Both (size_byte (mended flex shared).img) (size_byte shared.img) 2 × (number (mended favouring shared).img ≡ 0)
 unfolding rules demands paired
@@ -270,7 +270,7 @@ nonsense-both = (refl, refl, refl, refl)
 pub nonsense-spares : AsItWas nonsense (mended flex nonsense).img b_dat
 unfolding rules demands paired apart untaken
 nonsense-spares =
-    (from-repair.repaired nonsense nonsense-small nonsense-repaired).spares-first b_dat (record { slot = omega arith; alive = refl }) refl (taken-by-none nonsense b_dat refl refl)
+    (from-repair.repaired nonsense nonsense-small nonsense-repaired).spares_first b_dat (record { slot = omega arith; alive = refl }) refl (taken-by-none nonsense b_dat refl refl)
 
 -- `repair`, of demand 1: block 1 reads
 abbrev open_table : List ℕ

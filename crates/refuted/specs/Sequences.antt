@@ -55,12 +55,12 @@ unfolding rules demands paired busy_night
 night-proper =
     (omega arith, (omega arith, (omega arith, (omega arith, ((closed-then, refl), (omega arith, (omega arith, ((closed-later, refl), ((asked-typed, closed-later, refl), (omega arith, (omega arith, tt)))))))))))
 
-table-small : Small pair.tab
+table_small : Small pair.tab
 unfolding rules paired below
-table-small = small-below pair.tab refl
+table_small = small-below pair.tab refl
 
 pub night-lasts : Lasting flex (reached flex (stage pair) busy_night)
-night-lasts = lasts pair pair-start table-small busy_night night-proper
+night-lasts = lasts pair pair-start table_small busy_night night-proper
 
 night-plain : Plain (past flex (reached flex (stage pair) busy_night).start (reached flex (stage pair) busy_night).calls)
 unfolding rules demands paired busy_night
@@ -68,7 +68,7 @@ night-plain = (refl, (refl, tt))
 
 -- each data sector once: 1 to 4 are free, 0 is the new file's
 pub night-once : EachOnce flex (here flex (reached flex (stage pair) busy_night)).img
-night-once = night-lasts.each-once night-plain
+night-once = night-lasts.each_once night-plain
 
 pub night-lists : flex.census (here flex (reached flex (stage pair) busy_night)).img (zeros 5) (zeros 5) ≡ survey 0 (1 ∷ 2 ∷ 3 ∷ 4 ∷ 0 ∷ []) (0 ∷ 0 ∷ 0 ∷ 0 ∷ 1 ∷ [])
 unfolding rules demands paired busy_night
@@ -81,7 +81,7 @@ pub hoarding-fails-too : Lasts hoarding → ⊥
 unfolding rules demands paired below
 hoarding-fails-too d =
     differ 44 0 refl
-    (d pair pair-start table-small (formatting (wanted blank_label) ∷ [])
+    (d pair pair-start table_small (formatting (wanted blank_label) ∷ [])
     ((asked-typed, pair-start.closed, refl), tt)).begins.accepted
 
 -- `begins`: block 4 writes sector 1,5 raw, which is free and gets a link to nowhere; the repair that follows does nothing
@@ -89,7 +89,7 @@ pub pretending-fails-too : Lasts pretending → ⊥
 unfolding rules demands paired below
 pretending-fails-too d =
     differ 44 0 refl
-    (d pair pair-start table-small (calling (setting 4 0 10) ∷ calling (asking 4 0) ∷ repairing ∷ [])
+    (d pair pair-start table_small (calling (setting 4 0 10) ∷ calling (asking 4 0) ∷ repairing ∷ [])
     (omega arith, (omega arith, ((closed-eight (run pretending pair (setting 4 0 10 ∷ asking 4 0 ∷ [])).tab refl, refl), tt)))).begins.accepted
 
 -- plain calls that end in no start, with all blocks closed: block 2 deletes B.DAT
@@ -100,7 +100,7 @@ pub miscounting-fails : Restarts miscounting → ⊥
 unfolding rules demands paired
 miscounting-fails d =
     differ 44 0 refl
-    (d pair pair-start table-small deletes (omega arith, (omega arith, tt)) (refl, (refl, tt)) (all-shut (told miscounting pair deletes) refl)).accepted
+    (d pair pair-start table_small deletes (omega arith, (omega arith, tt)) (refl, (refl, tt)) (all-shut (told miscounting pair deletes) refl)).accepted
 
 pub miscounting-ours : flex.census (run flex pair deletes).img (zeros 5) (zeros 5) ≡ survey 0 (1 ∷ 4 ∷ 3 ∷ 2 ∷ 0 ∷ []) (0 ∷ 0 ∷ 0 ∷ 1 ∷ 1 ∷ [])
 unfolding rules demands paired

@@ -38,30 +38,30 @@ pub record Askable (w : Wanted) : Type 0 where
 
 -- a number, and the lent bytes afterwards
 pub record Entries : Type 0 where
-  pub flex-preset : List ℕ → ℕ → ℕ → ℕ → ℕ × List ℕ
-  pub flex-extension : List ℕ → ℕ → ℕ → ℕ × List ℕ
-  pub flex-call : List ℕ → List ℕ → ℕ → ℕ → ℕ × List ℕ × List ℕ
-  pub flex-census : List ℕ → List ℕ → List ℕ → ℕ × List ℕ × List ℕ
-  pub flex-error-text : List ℕ → ℕ → ℕ × List ℕ
-  pub flex-format : List ℕ → Wanted → ℕ × List ℕ
-  pub flex-repair : List ℕ → List ℕ → ℕ × List ℕ
+  pub flex_preset : List ℕ → ℕ → ℕ → ℕ → ℕ × List ℕ
+  pub flex_extension : List ℕ → ℕ → ℕ → ℕ × List ℕ
+  pub flex_call : List ℕ → List ℕ → ℕ → ℕ → ℕ × List ℕ × List ℕ
+  pub flex_census : List ℕ → List ℕ → List ℕ → ℕ × List ℕ × List ℕ
+  pub flex_error_text : List ℕ → ℕ → ℕ × List ℕ
+  pub flex_format : List ℕ → Wanted → ℕ × List ℕ
+  pub flex_repair : List ℕ → List ℕ → ℕ × List ℕ
 
 -- every outcome fits its promise, whatever a host hands over
 pub record Kept (h : Entries) : Type 0 where
   pub preset : (tab : List ℕ) (n i v : ℕ) → Held tab → n < limit → i < limit → v < 256
-      → let o = h.flex-preset tab n i v in PresetPromise tab n i v o.0 o.1
+      → let o = h.flex_preset tab n i v in PresetPromise tab n i v o.0 o.1
   pub extension : (tab : List ℕ) (n c : ℕ) → Held tab → n < limit → c < limit
-      → let o = h.flex-extension tab n c in ExtensionPromise tab n c o.0 o.1
+      → let o = h.flex_extension tab n c in ExtensionPromise tab n c o.0 o.1
   pub call : (img tab : List ℕ) (n b : ℕ) → Held img → Held tab → n < limit → b < 256
-      → let o = h.flex-call img tab n b in CallPromise img tab n b o.0 o.1 o.2
+      → let o = h.flex_call img tab n b in CallPromise img tab n b o.0 o.1 o.2
   pub census : (img xs ys : List ℕ) → Held img → Held xs → Held ys
-      → let o = h.flex-census img xs ys in CensusPromise img xs ys o.0 o.1 o.2
+      → let o = h.flex_census img xs ys in CensusPromise img xs ys o.0 o.1 o.2
   pub text : (m : List ℕ) (e : ℕ) → Held m → e < 256
-      → let o = h.flex-error-text m e in TextPromise m e o.0 o.1
+      → let o = h.flex_error_text m e in TextPromise m e o.0 o.1
   pub format : (img : List ℕ) (w : Wanted) → Held img → Askable w
-      → let o = h.flex-format img w in FormatPromise img w.last w.per w.label w.volume w.month w.day w.year o.0 o.1
+      → let o = h.flex_format img w in FormatPromise img w.last w.per w.label w.volume w.month w.day w.year o.0 o.1
   pub repair : (img tab : List ℕ) → Held img → Held tab
-      → let o = h.flex-repair img tab in RepairPromise img tab o.0 o.1
+      → let o = h.flex_repair img tab in RepairPromise img tab o.0 o.1
 
 -- ---- the service that a host builds from them
 
@@ -83,13 +83,13 @@ saying o = told o.0 o.1
 
 abbrev pub service_of : Entries → Service
 service_of h = record {
-  preset = λ tab n i v. saying (h.flex-preset tab n i v);
-  extension = λ tab n c. saying (h.flex-extension tab n c);
-  call = λ img tab n b. apart (h.flex-call img tab n b);
-  census = λ img xs ys. read_back (h.flex-census img (as_bytes xs) (as_bytes ys));
-  text = λ m e. saying (h.flex-error-text m e);
-  format = λ img w. saying (h.flex-format img w);
-  repair = λ img tab. saying (h.flex-repair img tab);
+  preset = λ tab n i v. saying (h.flex_preset tab n i v);
+  extension = λ tab n c. saying (h.flex_extension tab n c);
+  call = λ img tab n b. apart (h.flex_call img tab n b);
+  census = λ img xs ys. read_back (h.flex_census img (as_bytes xs) (as_bytes ys));
+  text = λ m e. saying (h.flex_error_text m e);
+  format = λ img w. saying (h.flex_format img w);
+  repair = λ img tab. saying (h.flex_repair img tab);
 }
 
 -- ---- the same service, to a host

@@ -43,19 +43,19 @@ unfolding next outcome
 held_next x h (setting n i v) k = record {
   image = h.image;
   table = held-as x.tab _ h.table (length-puts (on_block (preset x.tab n i v)) x.tab (block_at n))
-      ((preset-quiet x.img x.tab n i v).0.table-small (record { image = h.image.bytes; table = h.table.bytes; byte = k.2 }));
+      ((preset-quiet x.img x.tab n i v).0.table_small (record { image = h.image.bytes; table = h.table.bytes; byte = k.2 }));
 }
 held_next x h (extending n c) k = record {
   image = h.image;
   table = held-as x.tab _ h.table (length-puts (on_block (extension x.tab n c)) x.tab (block_at n))
-      ((extension-quiet x.img x.tab n c).0.table-small (record { image = h.image.bytes; table = h.table.bytes; byte = omega arith }));
+      ((extension-quiet x.img x.tab n c).0.table_small (record { image = h.image.bytes; table = h.table.bytes; byte = omega arith }));
 }
 held_next x h (asking n b) k =
     let l = call-lawful x.img x.tab n b in
     let g : Given x.img x.tab b = record { image = h.image.bytes; table = h.table.bytes; byte = k.1 } in
     record {
-      image = held-as x.img _ h.image (length-stored (on_image (call x.img x.tab n b)) x.img) (l.image-small g);
-      table = held-as x.tab _ h.table (length-puts (on_block (call x.img x.tab n b)) x.tab (block_at n)) (l.table-small g);
+      image = held-as x.img _ h.image (length-stored (on_image (call x.img x.tab n b)) x.img) (l.image_small g);
+      table = held-as x.tab _ h.table (length-puts (on_block (call x.img x.tab n b)) x.tab (block_at n)) (l.table_small g);
     }
 
 -- so it is after any calls

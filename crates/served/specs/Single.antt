@@ -24,17 +24,17 @@ texted (told e t) = (e, t)
 
 abbrev pub by_rules : Entries
 by_rules = record {
-  flex-preset = λ tab n i v. (answer (preset tab n i v), puts tab (block_at n) (on_block (preset tab n i v)));
-  flex-extension = λ tab n c. (answer (extension tab n c), puts tab (block_at n) (on_block (extension tab n c)));
-  flex-call = λ img tab n b. (
+  flex_preset = λ tab n i v. (answer (preset tab n i v), puts tab (block_at n) (on_block (preset tab n i v)));
+  flex_extension = λ tab n c. (answer (extension tab n c), puts tab (block_at n) (on_block (extension tab n c)));
+  flex_call = λ img tab n b. (
     packed (answer (call img tab n b)) (given (call img tab n b)),
     stored img (on_image (call img tab n b)),
     puts tab (block_at n) (on_block (call img tab n b)),
   );
-  flex-census = λ img xs ys. surveyed (host_census img xs ys);
-  flex-error-text = λ m e. texted (error_text m e);
-  flex-format = λ img w. texted (format img w.last w.per w.label w.volume w.month w.day w.year);
-  flex-repair = λ img tab. texted (repair img tab);
+  flex_census = λ img xs ys. surveyed (host_census img xs ys);
+  flex_error_text = λ m e. texted (error_text m e);
+  flex_format = λ img w. texted (format img w.last w.per w.label w.volume w.month w.day w.year);
+  flex_repair = λ img tab. texted (repair img tab);
 }
 
 survey-is : (s : Survey) → survey (surveyed s).0 (surveyed s).1 (surveyed s).2 ≡ s
@@ -57,13 +57,13 @@ kept-by-rules = record {
 -- ---- in one way only: the number and the bytes of every entry
 
 pub record SameEntries (h h' : Entries) : Type 0 where
-  pub preset : (tab : List ℕ) (n i v : ℕ) → Held tab → n < limit → i < limit → v < 256 → h.flex-preset tab n i v ≡ h'.flex-preset tab n i v
-  pub extension : (tab : List ℕ) (n c : ℕ) → Held tab → n < limit → c < limit → h.flex-extension tab n c ≡ h'.flex-extension tab n c
-  pub call : (img tab : List ℕ) (n b : ℕ) → Held img → Held tab → n < limit → b < 256 → h.flex-call img tab n b ≡ h'.flex-call img tab n b
-  pub census : (img xs ys : List ℕ) → Held img → Held xs → Held ys → h.flex-census img xs ys ≡ h'.flex-census img xs ys
-  pub text : (m : List ℕ) (e : ℕ) → Held m → e < 256 → h.flex-error-text m e ≡ h'.flex-error-text m e
-  pub format : (img : List ℕ) (w : Wanted) → Held img → Askable w → h.flex-format img w ≡ h'.flex-format img w
-  pub repair : (img tab : List ℕ) → Held img → Held tab → h.flex-repair img tab ≡ h'.flex-repair img tab
+  pub preset : (tab : List ℕ) (n i v : ℕ) → Held tab → n < limit → i < limit → v < 256 → h.flex_preset tab n i v ≡ h'.flex_preset tab n i v
+  pub extension : (tab : List ℕ) (n c : ℕ) → Held tab → n < limit → c < limit → h.flex_extension tab n c ≡ h'.flex_extension tab n c
+  pub call : (img tab : List ℕ) (n b : ℕ) → Held img → Held tab → n < limit → b < 256 → h.flex_call img tab n b ≡ h'.flex_call img tab n b
+  pub census : (img xs ys : List ℕ) → Held img → Held xs → Held ys → h.flex_census img xs ys ≡ h'.flex_census img xs ys
+  pub text : (m : List ℕ) (e : ℕ) → Held m → e < 256 → h.flex_error_text m e ≡ h'.flex_error_text m e
+  pub format : (img : List ℕ) (w : Wanted) → Held img → Askable w → h.flex_format img w ≡ h'.flex_format img w
+  pub repair : (img tab : List ℕ) → Held img → Held tab → h.flex_repair img tab ≡ h'.flex_repair img tab
 
 pair : (o o' : ℕ × List ℕ) → (o.0 ≡ o'.0) × (o.1 ≡ o'.1) → o ≡ o'
 pair o o' e = ap₂ (λ (r : ℕ) (m : List ℕ). (r, m)) e.0 e.1
