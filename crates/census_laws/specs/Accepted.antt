@@ -8,7 +8,8 @@ use Rattle.rules.specs.Directory.{directory, slots, live, size_at}
 use Rattle.rules.specs.Census.{file_owners, files_owners, directory_numbers, directory_owner, listed, owners, tally, Survey, survey, census}
 use Rattle.laws.specs.Each.{Each, each_append, each-so, each_at}
 use Rattle.laws.specs.Counting.{once_is}
-use Rattle.laws.specs.Surveys.{data_sectors, length-listed, listed_below, length-owners, census-is}
+use Rattle.laws.specs.Surveys.{data_sectors, length-owners, census-is}
+use Rattle.laws.proofs.Surveys.{length-listed, listed_below}
 
 -- ---- owners
 

@@ -16,7 +16,8 @@ use Rattle.rules.specs.Census.{unless, twins, free_right, files_right, numbers_f
 use Rattle.laws.specs.Bytes.{over-append, length-zeros}
 use Rattle.laws.specs.Addresses.{Shape}
 use Rattle.laws.specs.Slots.{numbers_fit}
-use Rattle.laws.specs.Surveys.{length-numbers, length-owners, numbers-listed}
+use Rattle.laws.specs.Surveys.{length-numbers, length-owners}
+use Rattle.laws.proofs.Surveys.{numbers-listed}
 use Rattle.census_laws.specs.Numbered.{files_numbered, numbered}
 use Rattle.census_laws.specs.Marks.{Marked, marked, marking, Marks, marking-once, once-short}
 use Rattle.laws.specs.Lent.{over-exact}

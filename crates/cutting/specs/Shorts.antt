@@ -12,7 +12,7 @@ use Rattle.laws.specs.Each.{Each, each_append, each_right, each-so, each_take}
 use Rattle.laws.specs.Small.{Small, small-six, small-zeros}
 use Rattle.laws.specs.Stores.{piece_of, Off, Inside, SmallStore, stores-each, stored-off, length-stored, small-stored}
 use Rattle.laws.specs.Addresses.{Shape}
-use Rattle.laws.specs.Effects.{call-lawful}
+use Rattle.laws.proofs.Effects.{call-lawful}
 use Rattle.chains.specs.Tally.{tally, tally-head, member-in, member-no, in-member}
 use Rattle.chains.specs.Chain.{tally-last}
 use Rattle.demands.specs.Ledger.{Call, setting, extending, asking, Ledger}

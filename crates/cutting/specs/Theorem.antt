@@ -6,7 +6,8 @@ use Rattle.rules.specs.Directory.{member, directory}
 use Rattle.laws.specs.Each.{Each, each_left, each_right}
 use Rattle.laws.specs.Small.{Small}
 use Rattle.laws.specs.Facts.{Given}
-use Rattle.laws.specs.Effects.{call-lawful, preset-quiet, extension-quiet}
+use Rattle.laws.specs.Effects.{preset-quiet, extension-quiet}
+use Rattle.laws.proofs.Effects.{call-lawful}
 use Rattle.chains.specs.Directory.{directory-is}
 use Rattle.demands.specs.Ledger.{Call, setting, extending, asking}
 use Rattle.demands.specs.Service.{flex, Machine, outcome, next, run, SendsByte}

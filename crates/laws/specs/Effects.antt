@@ -7,15 +7,15 @@ use Rattle.rules.specs.Bytes.{byte_at, within, one}
 use Rattle.rules.specs.Stores.{Store, stored, Put, put, puts}
 use Rattle.rules.specs.Directory.{member}
 use Rattle.rules.specs.Outcome.{Outcome, refuse, done, Effect, effect, answer, given, on_image, on_block, settled}
-use Rattle.rules.specs.Block.{blocks, block_length, block_at, extension_field, function_in, activity_in, idle, on_table, presettable, preset_in, preset, extensions, extension_in, extension}
+use Rattle.rules.specs.Block.{blocks, block_length, block_at, extension_field, activity_in, idle, on_table, presettable, preset_in, preset, extensions, extension_in, extension}
 use Rattle.rules.specs.Call.{asked, call}
 use Rattle.laws.specs.Tests.{either, within-is, pick_all, pick-cases}
 use Rattle.laws.specs.Bytes.{length-one}
-use Rattle.laws.specs.Each.{Each, each_append, each_at, each_member, member-there, among, among-each}
+use Rattle.laws.specs.Each.{Each, each_at, each_member, member-there, among}
 use Rattle.laws.specs.Small.{Small, small-each}
 use Rattle.laws.specs.Stores.{length-stored, length-puts, puts-off, Inside, Within, small-stored, small-puts}
-use Rattle.laws.specs.Fair.{Run, run-one, GoodPut, good-put, puts-within, puts-small, stores-inside, stores-small, Done, Fair, fair-still, fair-more, fair-then}
-use Rattle.laws.specs.Facts.{Given, refusals, most_stores, in_checks, asked_numbers, asked-fair}
+use Rattle.laws.specs.Fair.{Run, run-one, GoodPut, good-put, puts-within, puts-small, stores-inside, stores-small, Done, Fair, fair-still, fair-then}
+use Rattle.laws.specs.Facts.{Given}
 
 -- ---- lengths, of any effect
 
@@ -37,34 +37,8 @@ abbrev pub repair_numbers : List ℕ
 repair_numbers = 0 ∷ 2 ∷ 13 ∷ 41 ∷ 42 ∷ 43 ∷ []
 
 -- those of any function are such
-Stated : List ℕ → Type 0
+unfoldable pub Stated : List ℕ → Type 0
 Stated es = among es refusal_numbers ≡ true
-
-refusals-stated : (code act : ℕ) → Stated (refusals code act)
-unfolding Stated refusals member among
-refusals-stated code act =
-    pick_all Stated (eqb code 0) _ _ (pick_all Stated (eqb act 1) _ _ refl refl)
-    (pick_all Stated (eqb code 1) _ _ refl
-    (pick_all Stated (eqb code 2) _ _ refl
-    (pick_all Stated (eqb code 4) _ _ refl
-    (pick_all Stated (eqb code 5) _ _ refl
-    (pick_all Stated (eqb code 6) _ _ refl
-    (pick_all Stated (eqb code 7) _ _ refl
-    (pick_all Stated (eqb code 8) _ _ refl
-    (pick_all Stated (eqb code 9) _ _ refl
-    (pick_all Stated (eqb code 10) _ _ refl
-    (pick_all Stated (eqb code 12) _ _ refl refl))))))))))
-
--- what `asked` may come to, with all numbers together
-asked-stated : (img tab : List ℕ) (f b : ℕ)
-    → Fair (Given img tab b) (length img) refusal_numbers (most_stores (function_in tab f) (activity_in tab f)) (asked img tab f b)
-unfolding Stated member among
-asked-stated img tab f b =
-    fair-more (Given img tab b) (length img) (asked_numbers img tab f b) refusal_numbers _ _ (asked img tab f b)
-    (each_append (λ (e : ℕ). member e refusal_numbers ≡ true) in_checks (refusals (function_in tab f) (activity_in tab f))
-    (among-each in_checks refusal_numbers refl)
-    (among-each (refusals (function_in tab f) (activity_in tab f)) refusal_numbers (refusals-stated (function_in tab f) (activity_in tab f))))
-    (omega arith) (asked-fair img tab f b)
 
 -- a refusal's number is a byte, and not 0
 pub number_is : (e : ℕ) → member e refusal_numbers ≡ true → (1 ≤ e) × (e < 256)
@@ -116,7 +90,7 @@ module _ (img tab : List ℕ) (b f : ℕ) (es : List ℕ) (n : ℕ) where
   lawful-done ps m p = lawful 0 0 [] ps m (fair-still G (length img) [] n ps p) (λ h. absurd (h refl))
 
   -- refused, and nothing stored
-  lawful-nothing : (e : ℕ) → member e es ≡ true → Lawful G img tab f es n (effect e 0 [] [])
+  pub lawful-nothing : (e : ℕ) → member e es ≡ true → Lawful G img tab f es n (effect e 0 [] [])
   lawful-nothing e m = lawful e 0 [] [] m (fair-still G (length img) [] n [] tt) (λ h. record { byte = refl; image = refl; table = λ p k. refl })
 
 -- what holds of 13 and of the rest holds where table and number are looked at first
@@ -130,7 +104,7 @@ module _ (img tab : List ℕ) (b f n : ℕ) where
   abbrev H : Type 0
   H = Given img tab b
 
-  lawful-settled : (o : Outcome) → Fair H (length img) refusal_numbers n o → Lawful H img tab f answer_numbers n (settled o)
+  pub lawful-settled : (o : Outcome) → Fair H (length img) refusal_numbers n o → Lawful H img tab f answer_numbers n (settled o)
   unfolding member
   lawful-settled (refuse e) m =
       lawful img tab b f answer_numbers n e 0 [] (put 1 (one e) ∷ []) (member-there e 0 refusal_numbers m)
@@ -140,14 +114,6 @@ module _ (img tab : List ℕ) (b f n : ℕ) where
       lawful img tab b f answer_numbers n 0 c ss (ps ++ put 1 (one 0) ∷ []) refl
       (fair-then H (length img) [] n (done c ss ps) (put 1 (one 0) ∷ []) d (good-put H 1 1 _ (run-one H 0 (λ g. omega arith)) (omega arith), tt))
       (λ h. absurd (h refl))
-
-pub call-lawful : (img tab : List ℕ) (n b : ℕ)
-    → Lawful (Given img tab b) img tab (block_at n) answer_numbers (most_stores (function_in tab (block_at n)) (activity_in tab (block_at n))) (call img tab n b)
-unfolding call member
-call-lawful img tab n b =
-    on_table-all (Lawful (Given img tab b) img tab (block_at n) answer_numbers _) tab n (settled (asked img tab (block_at n) b))
-    (lawful-settled img tab b (block_at n) _ (asked img tab (block_at n) b) (asked-stated img tab (block_at n) b))
-    (lawful-nothing img tab b (block_at n) answer_numbers _ 13 refl)
 
 -- what table and number let through, and what not
 pub table-right : (tab : List ℕ) (n : ℕ) (e : Effect) → length tab ≡ block_length * blocks → n < blocks → on_table tab n e ≡ e

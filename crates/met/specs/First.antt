@@ -10,7 +10,8 @@ use Rattle.rules.specs.Call.{served, fits, misfit, checked, asked, call}
 use Rattle.laws.specs.Bytes.{over-one}
 use Rattle.laws.specs.Small.{Small}
 use Rattle.laws.specs.Stores.{length-puts, puts-append}
-use Rattle.laws.specs.Effects.{lengths-kept, on_table-all, call-lawful, call-right, call-wrong, call-refused}
+use Rattle.laws.specs.Effects.{lengths-kept, on_table-all, call-right, call-wrong, call-refused}
+use Rattle.laws.proofs.Effects.{call-lawful}
 use Rattle.demands.specs.Service.{flex, leaves}
 use Rattle.demands.specs.Demands.{Lent, first_refusal, names, InWords, Demand1}
 use Rattle.met.specs.Bounds.{touches, untouched, Tame, tame-settled}

@@ -21,7 +21,8 @@ use Rattle.rules.specs.declared.Lookup.TheVariants.{At, Missing, Broken}
 use Rattle.laws.specs.Bytes.{part-is, length_part, length-zeros, same_refl, same-eq}
 use Rattle.laws.specs.Addresses.{Shape}
 use Rattle.chains.specs.Chain.{first-get_or}
-use Rattle.laws.specs.Slots.{length-slots, slot_is, placed-is}
+use Rattle.laws.specs.Slots.{length-slots, placed-is}
+use Rattle.laws.proofs.Slots.{slot_is}
 use Rattle.chains.specs.Addresses.{absurd-bool}
 use Rattle.chains.specs.Directory.{directory-is, slot_at, spot, spot-sector, placed-spot, behind}
 use Rattle.laws.specs.Stores.{puts-off, puts-at}

@@ -11,7 +11,8 @@ use Rattle.laws.specs.Each.{Each, each_append}
 use Rattle.laws.specs.Small.{Small}
 use Rattle.laws.specs.Facts.{Given}
 use Rattle.laws.specs.Stores.{length-puts}
-use Rattle.laws.specs.Effects.{call-lawful, preset-quiet, extension-quiet}
+use Rattle.laws.specs.Effects.{preset-quiet, extension-quiet}
+use Rattle.laws.proofs.Effects.{call-lawful}
 use Rattle.demands.specs.Ledger.{Call, setting, extending, asking, File, Block, closed}
 use Rattle.demands.specs.Diskette.{ledger_numbers, ledger_owners}
 use Rattle.demands.specs.Service.{flex, Machine, SendsByte, outcome, next, run}

@@ -8,7 +8,8 @@ use Rattle.laws.specs.Each.{Each, each-so}
 use Rattle.laws.specs.Addresses.{Shape, Shaped, data-few}
 use Rattle.laws.specs.Slots.{numbers_fit}
 use Rattle.laws.specs.Bytes.{length-zeros}
-use Rattle.laws.specs.Surveys.{SaneImage, data_sectors, listed_below, census-accepts}
+use Rattle.laws.specs.Surveys.{SaneImage, data_sectors, census-accepts}
+use Rattle.laws.proofs.Surveys.{listed_below}
 use Rattle.census_laws.specs.Accepted.{Owner, accepted}
 
 each_of : (P : ℕ → Type 0) (xs : List ℕ) → ((i : ℕ) → i < length xs → P (get_or xs i 0)) → Each P xs

@@ -13,7 +13,8 @@ use Rattle.laws.specs.Each.{Each}
 use Rattle.laws.specs.Small.{Small}
 use Rattle.laws.specs.Facts.{Given}
 use Rattle.laws.specs.Stores.{length-stored, length-puts}
-use Rattle.laws.specs.Effects.{call-lawful, preset-quiet, extension-quiet}
+use Rattle.laws.specs.Effects.{preset-quiet, extension-quiet}
+use Rattle.laws.proofs.Effects.{call-lawful}
 use Rattle.laws.specs.Blank.{formatted}
 use Rattle.mending.specs.Laid.{small-mended}
 use Rattle.mending.specs.Accepted.{mended-left}

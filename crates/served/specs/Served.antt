@@ -9,7 +9,7 @@ use Rattle.rules.specs.Census.{Survey, survey, listed, owners, fault, concluded,
 use Rattle.rules.specs.Host.{as_bytes, host_concluded, host_census}
 use Rattle.laws.specs.Facts.{Given}
 use Rattle.laws.specs.Addresses.{Shaped, shape_is}
-use Rattle.laws.specs.Effects.{call-lawful}
+use Rattle.laws.proofs.Effects.{call-lawful}
 use Rattle.laws.specs.Surveys.{data_sectors, fault-is, length-bytes}
 use Rattle.flex.specs.Promised.{PresetPromise, ExtensionPromise, CallPromise, CensusPromise}
 use Rattle.demands.specs.Service.{flex}
