@@ -28,9 +28,9 @@ use Rattle.met.specs.Joins.{again}
 use Rattle.met.specs.Blanks.{from-blank}
 use Rattle.met.specs.Mends.{from-repair}
 use Rattle.met.specs.Sequences.{restarts, lasts}
-use Rattle.cutting.specs.Theorem.{power-cut}
+use Rattle.cutting.proofs.Theorem.{power-cut}
 use Rattle.served.specs.Entries.{Held, Output, Askable, Entries, Kept, service_of, Same}
-use Rattle.served.specs.Served.{served}
+use Rattle.served.proofs.Served.{served}
 use Rattle.served.specs.Runs.{Made, HeldMachine, held-run, held-format, held-repair, runs_same}
 
 -- ---- THE STATEMENT
@@ -84,7 +84,7 @@ zeros-output img h = record {
 }
 
 -- image and table of the last start, and the calls since, are such as a host can hold and make
-record Handled (g : Stage) : Type 0 where
+pub record Handled (g : Stage) : Type 0 where
   machine : HeldMachine g.start
   calls : Each Made g.calls
 
@@ -111,7 +111,7 @@ module _ (σ : Service) (s : Same σ flex) where
     proper : AllProper flex g ds
     handled : Handled (reached flex g ds)
 
-  carried : (ds : List Deed) (g : Stage) → Handled g → Each Doable ds → AllProper σ g ds → Carried g ds
+  pub carried : (ds : List Deed) (g : Stage) → Handled g → Each Doable ds → AllProper σ g ds → Carried g ds
   unfolding reached
   carried [] g m k p = record { place = refl; proper = tt; handled = m }
   carried (calling c ∷ ds) g m k p =
@@ -180,7 +180,7 @@ says-by σ s x y es held u = record {
   no_more = u.no_more;
 }
 
-says : (σ : Service) → Same σ flex → (g : Stage) → Handled g → Start g.start → Plain (past σ g.start g.calls) → Says σ g.start (here σ g) (log σ g.start g.calls)
+pub says : (σ : Service) → Same σ flex → (g : Stage) → Handled g → Start g.start → Plain (past σ g.start g.calls) → Says σ g.start (here σ g) (log σ g.start g.calls)
 says σ s g m st p =
     let x = g.start in
     let cs = g.calls in
@@ -188,17 +188,6 @@ says σ s g m st p =
     let q : Plain (past flex x cs) = subst (λ (es : List Entry). Plain (scenes (last_track_of x) (per_track_of x) (begun x) es)) e.1 p in
     let u = says-by σ s x (run flex x cs) (log flex x cs) (held-run x m.machine cs m.calls).image (says-ours x cs (demand3 x st cs q)) in
     subst (λ (y : Machine). Says σ x y (log σ x cs)) (sym e.0) (subst (λ (es : List Entry). Says σ x (run flex x cs) es) (sym e.1) u)
-
--- THE THEOREM
-pub archive : Archive
-archive h k x m st ds d p =
-    let σ = service_of h in
-    let s = served h k in
-    let c = carried σ s ds (stage x) (record { machine = m; calls = tt }) d p in
-    let l = lasts x st m.table.bytes ds c.proper in
-    let place = sym c.place in
-    let begins = subst (λ (g : Stage). Start g.start) place l.begins in
-    record { begins = begins; says = says σ s (reached σ (stage x) ds) (subst Handled place c.handled) begins }
 
 -- and entry by entry, on any bytes that a host can hold, it is the service of which all else is proved
 pub record Proved (h : Entries) : Type 0 where

@@ -31,7 +31,7 @@ pub intact-same : (S : ℕ) (a : Ledger) (img m : List ℕ) → Small img → m 
 intact-same S a img m s e = record { long = ap length e; small = subst Small (sym e) s; same = λ p q. ap (λ (x : List ℕ). byte_at x p) e }
 
 -- harmless stores leave what matters
-harmless-intact : (S : ℕ) (a : Ledger) (img : List ℕ) (ss : List Store) → Small img → Each SmallStore ss → Each (Harmless S a) ss → Intact S a img (stored img ss)
+pub harmless-intact : (S : ℕ) (a : Ledger) (img : List ℕ) (ss : List Store) → Small img → Each SmallStore ss → Each (Harmless S a) ss → Intact S a img (stored img ss)
 harmless-intact S a img ss s t h = record {
   long = length-stored ss img;
   small = small-stored ss img s t;
@@ -41,7 +41,7 @@ harmless-intact S a img ss s t h = record {
 -- m has in each sector what one of two images has; these have, in all sectors but d, the same bytes of a kind
 module _ (img img' m : List ℕ) (v : (k : ℕ) → SameSector k m img ⊎ SameSector k m img')
     (d : ℕ) (Q : ℕ → Type 0) (kept : (p : ℕ) → Q p → p / 256 ≢ d → byte_at img' p ≡ byte_at img p) where
-  sector-byte : (c : List ℕ) (p : ℕ) → SameSector (p / 256) m c → byte_at m p ≡ byte_at c p
+  pub sector-byte : (c : List ℕ) (p : ℕ) → SameSector (p / 256) m c → byte_at m p ≡ byte_at c p
   sector-byte c p e = part-byte m c (256 * (p / 256)) 256 p e (omega arith) (omega arith)
 
   in-d : (c : List ℕ) (p : ℕ) → p / 256 ≡ d → SameSector d m c → byte_at m p ≡ byte_at c p
@@ -63,7 +63,7 @@ module _ (img img' m : List ℕ) (v : (k : ℕ) → SameSector k m img ⊎ SameS
       go (no h) (inl w) = sector-byte img p w
       go (no h) (inr w) = sector-byte img' p w ∙ kept p q h
 
-  all_new : SameSector d m img' → (p : ℕ) → Q p → byte_at m p ≡ byte_at img' p
+  pub all_new : SameSector d m img' → (p : ℕ) → Q p → byte_at m p ≡ byte_at img' p
   all_new e p q = go (ℕ_discrete (p / 256) d) (v (p / 256))
     where
       go : Dec (p / 256 ≡ d) → SameSector (p / 256) m img ⊎ SameSector (p / 256) m img' → byte_at m p ≡ byte_at img' p
@@ -76,21 +76,21 @@ module _ (img img' m : List ℕ) (v : (k : ℕ) → SameSector k m img ⊎ SameS
 abbrev Besides : ℕ → Ledger → ℕ → Store → Type 0
 Besides S a d s = (p : ℕ) → Matters S a p → p / 256 ≢ d → Off p (piece_of s)
 
-into-own : (n k i : ℕ) (vs : List ℕ) (p : ℕ) → Inside n (store k i vs) → p / 256 ≢ k → Off p (piece_of (store k i vs))
+pub into-own : (n k i : ℕ) (vs : List ℕ) (p : ℕ) → Inside n (store k i vs) → p / 256 ≢ k → Off p (piece_of (store k i vs))
 into-own n k i vs p h ne b e = ne (omega (arith, h.0))
 
-besides-kept : (S : ℕ) (a : Ledger) (img : List ℕ) (d : ℕ) (ss : List Store) → Each (Besides S a d) ss → (p : ℕ) → Matters S a p → p / 256 ≢ d
+pub besides-kept : (S : ℕ) (a : Ledger) (img : List ℕ) (d : ℕ) (ss : List Store) → Each (Besides S a d) ss → (p : ℕ) → Matters S a p → p / 256 ≢ d
     → byte_at (stored img ss) p ≡ byte_at img p
 besides-kept S a img d ss h p q ne =
     stored-off ss img p (stores-each (Off p) ss (each-so (Besides S a d) (λ (x : Store). Off p (piece_of x)) ss (λ x f. f p q ne) h))
 
 -- the one sector of the directory that a call stores into
-record Into (S : ℕ) (a : Ledger) (ss : List Store) : Type 0 where
+pub record Into (S : ℕ) (a : Ledger) (ss : List Store) : Type 0 where
   pub sector : ℕ
   pub listed : 1 ≤ tally sector a.dir
   pub besides : Each (Besides S a sector) ss
 
-into-last : (S : ℕ) (a : Ledger) (n : ℕ) (ss : List Store) (s : Store) → Each (Harmless S a) ss → ToDirectory a s → Inside n s → Into S a (ss ++ s ∷ [])
+pub into-last : (S : ℕ) (a : Ledger) (n : ℕ) (ss : List Store) (s : Store) → Each (Harmless S a) ss → ToDirectory a s → Inside n s → Into S a (ss ++ s ∷ [])
 into-last S a n ss (store k i vs) h t b = record {
   sector = k;
   listed = t;
@@ -100,75 +100,18 @@ into-last S a n ss (store k i vs) h t b = record {
 -- ---- what is left
 
 module _ (M S : ℕ) (z : Shape M S) (img tab : List ℕ) (a : Ledger) (r : Agrees M S img tab a) (small : Small img) where
-  record-free : (fr : List ℕ) → Harmless S a (store 2 29 (chain_record S fr))
-  unfolding chain_record
-  record-free fr = record-harmless M S z img tab a r (chain_record S fr) (length-six _ _ _)
 
-  record-small : (fr : List ℕ) → SmallStore (store 2 29 (chain_record S fr))
+  pub record-small : (fr : List ℕ) → SmallStore (store 2 29 (chain_record S fr))
   unfolding chain_record
   record-small fr = small-six _ _ _
 
-  cleared-free : (k : ℕ) (fr : List ℕ) → a.free ≡ k ∷ fr → (i : ℕ) (vs : List ℕ) → i + length vs ≤ 256 → Harmless S a (store k i vs)
+  pub cleared-free : (k : ℕ) (fr : List ℕ) → a.free ≡ k ∷ fr → (i : ℕ) (vs : List ℕ) → i + length vs ≤ 256 → Harmless S a (store k i vs)
   cleared-free k fr e i vs l = free-harmless M S z img tab a r k i vs (omega (arith, ap (tally k) e, tally-head k fr)) l
-
-  -- the first k stores, while the last is missing
-  missing : (ss : List Store) → Staged S a ss → (k : ℕ) → k < length ss
-      → Intact S a img (stored img (take k ss)) ⊎ Longer S a img (stored img (take k ss)) (stored img ss)
-  missing ss none k b = absurd (omega arith)
-  missing ss (lone s) zero b = inl (intact-same S a img img small refl)
-  missing ss (lone s) (suc k) b = absurd (omega arith)
-  missing ss (early us s h t d) k b =
-      let e : take k (us ++ s ∷ []) ≡ take k us = take-append-le k us (s ∷ []) (omega (arith, length-append us (s ∷ []))) in
-      inl (rw e (harmless-intact S a img (take k us) small (each_take SmallStore k us t) (each_take (Harmless S a) k us h)))
-  missing ss (grows k fr entry e l) zero b = inl (intact-same S a img img small refl)
-  missing ss (grows k fr entry e l) (suc zero) b = inl (harmless-intact S a img (take 1 ss) small (record-small fr, tt) (record-free fr, tt))
-  missing ss (grows k fr entry e l) (suc (suc zero)) b =
-      inl (harmless-intact S a img (take 2 ss) small (record-small fr, (small-zeros 256, tt))
-      (record-free fr, (cleared-free k fr e 0 (zeros 256) (omega (arith, length-zeros 256)), tt)))
-  missing ss (grows k fr entry e l) (suc (suc (suc zero))) b = inr (record { taken = k; rest = fr; free = e; is = refl; entry = entry; long = l; filled = refl })
-  missing ss (grows k fr entry e l) (suc (suc (suc (suc j)))) b = absurd (omega arith)
-
-  -- of what matters the stores cover bytes of one sector of the directory; or there is one store at most
-  staged-into : (ss : List Store) → Staged S a ss → Each (Inside (length img)) ss
-      → Into S a ss ⊎ ((d : ℕ) × ((p : ℕ) → p / 256 ≢ d → byte_at (stored img ss) p ≡ byte_at img p))
-  staged-into ss none b = inr (0, λ p ne. refl)
-  staged-into ss (lone (store k i vs)) b = inr (k, λ p ne. stored-off (store k i vs ∷ []) img p (into-own (length img) k i vs p b.0 ne, tt))
-  staged-into ss (early us s h t d) b = inl (into-last S a (length img) us s h d (each_right (Inside (length img)) us (s ∷ []) b).0)
-  staged-into ss (grows k fr entry e l) b = inl (record {
-    sector = last_of a.dir 4;
-    listed = tally-last a.dir 4 r.listing.some;
-    besides = (
-      (λ p q ne. record-free fr p q),
-      (
-        (λ p q ne. cleared-free k fr e 0 (zeros 256) (omega (arith, length-zeros 256)) p q),
-        (
-          (λ p q ne. into-own (length img) (last_of a.dir 4) 0 (two (adr S k)) p b.1.1.0 ne),
-          ((λ p q ne. cleared-free k fr e 16 entry (omega arith) p q), tt),
-        ),
-      ),
-    );
-  })
-
-  -- of the directory's sectors at most one changes
-  one-listed : (ss : List Store) → Staged S a ss → Each (Inside (length img)) ss
-      → (d : ℕ) × ((k : ℕ) → 1 ≤ tally k a.dir → k ≢ d → SameSector k (stored img ss) img)
-  one-listed ss g b = go (staged-into ss g b)
-    where
-      by : (d : ℕ) → ((p : ℕ) → Matters S a p → p / 256 ≢ d → byte_at (stored img ss) p ≡ byte_at img p) → (k : ℕ) → 1 ≤ tally k a.dir → k ≢ d
-          → SameSector k (stored img ss) img
-      by d h k t ne =
-          part_same img (stored img ss) (256 * k) (256 * k) 256
-          (λ i c. let e : (256 * k + i) / 256 ≡ k = omega arith in h (256 * k + i) (directory-matters S a k (256 * k + i) t e) (λ q. ne (sym e ∙ q)))
-
-      go : Into S a ss ⊎ ((d : ℕ) × ((p : ℕ) → p / 256 ≢ d → byte_at (stored img ss) p ≡ byte_at img p))
-          → (d : ℕ) × ((k : ℕ) → 1 ≤ tally k a.dir → k ≢ d → SameSector k (stored img ss) img)
-      go (inl w) = (w.sector, by w.sector (besides-kept S a img w.sector ss w.besides))
-      go (inr w) = (w.0, by w.0 (λ p m ne. w.1 p ne))
 
   -- a copy, of which some sectors are written: none of the directory's, or all others
   module _ (ss : List Store) (small' : Small (stored img ss)) (m : List ℕ) (long : length m ≡ length img)
       (v : (k : ℕ) → SameSector k m img ⊎ SameSector k m (stored img ss)) where
-    one-sector : (d : ℕ) → ((p : ℕ) → p / 256 ≢ d → byte_at (stored img ss) p ≡ byte_at img p) → (m ≡ img) ⊎ (m ≡ stored img ss)
+    pub one-sector : (d : ℕ) → ((p : ℕ) → p / 256 ≢ d → byte_at (stored img ss) p ≡ byte_at img p) → (m ≡ img) ⊎ (m ≡ stored img ss)
     one-sector d h = go (v d)
       where
         go : SameSector d m img ⊎ SameSector d m (stored img ss) → (m ≡ img) ⊎ (m ≡ stored img ss)
@@ -176,57 +119,31 @@ module _ (M S : ℕ) (z : Shape M S) (img tab : List ℕ) (a : Ledger) (r : Agre
         go (inr e) = inr (ext_get_or 0 m (stored img ss) (long ∙ sym (length-stored ss img)) (λ p b. all_new img (stored img ss) m v d (λ (x : ℕ). Unit {0}) (λ x u ne. h x ne) e p tt))
 
     module _ (w : Into S a ss) where
-      kept : (p : ℕ) → Matters S a p → p / 256 ≢ w.sector → byte_at (stored img ss) p ≡ byte_at img p
+      pub kept : (p : ℕ) → Matters S a p → p / 256 ≢ w.sector → byte_at (stored img ss) p ≡ byte_at img p
       kept = besides-kept S a img w.sector ss w.besides
 
-      old-sector : SameSector w.sector m img → Intact S a img m
+      pub old-sector : SameSector w.sector m img → Intact S a img m
       old-sector e = record {
         long = long;
         small = small-mixed img (stored img ss) m v w.sector (Matters S a) kept small small';
         same = all_old img (stored img ss) m v w.sector (Matters S a) kept e;
       }
 
-      new-sector : SameSector w.sector m (stored img ss) → ((k : ℕ) → tally k a.dir ≡ 0 → SameSector k m (stored img ss)) → m ≡ stored img ss
-      new-sector e others = ext_get_or 0 m (stored img ss) (long ∙ sym (length-stored ss img)) (λ p b. go p (ℕ_discrete (tally (p / 256) a.dir) 0))
-        where
-          go : (p : ℕ) → Dec (tally (p / 256) a.dir ≡ 0) → byte_at m p ≡ byte_at (stored img ss) p
-          go p (yes t) = sector-byte img (stored img ss) m v w.sector (Matters S a) kept (stored img ss) p (others (p / 256) t)
-          go p (no t) = all_new img (stored img ss) m v w.sector (Matters S a) kept e p (directory-matters S a (p / 256) p (omega (arith, t)) refl)
-
-    copied : ((k : ℕ) → 1 ≤ tally k a.dir → SameSector k m img) ⊎ ((k : ℕ) → tally k a.dir ≡ 0 → SameSector k m (stored img ss))
-        → Staged S a ss → Each (Inside (length img)) ss → Intact S a img m ⊎ (m ≡ stored img ss)
-    copied o g b = go o (staged-into ss g b)
-      where
-        by : (w : Into S a ss) → ((k : ℕ) → tally k a.dir ≡ 0 → SameSector k m (stored img ss))
-            → SameSector w.sector m img ⊎ SameSector w.sector m (stored img ss) → Intact S a img m ⊎ (m ≡ stored img ss)
-        by w h (inl e) = inl (old-sector w e)
-        by w h (inr e) = inr (new-sector w e h)
-
-        whole : (m ≡ img) ⊎ (m ≡ stored img ss) → Intact S a img m ⊎ (m ≡ stored img ss)
-        whole (inl e) = inl (intact-same S a img m small e)
-        whole (inr e) = inr e
-
-        go : ((k : ℕ) → 1 ≤ tally k a.dir → SameSector k m img) ⊎ ((k : ℕ) → tally k a.dir ≡ 0 → SameSector k m (stored img ss))
-            → Into S a ss ⊎ ((d : ℕ) × ((p : ℕ) → p / 256 ≢ d → byte_at (stored img ss) p ≡ byte_at img p)) → Intact S a img m ⊎ (m ≡ stored img ss)
-        go (inl h) (inl w) = inl (old-sector w (h w.sector w.listed))
-        go (inr h) (inl w) = by w h (v w.sector)
-        go h (inr w) = whole (one-sector w.0 w.1)
-
 -- ---- a call, cut short
 
 -- the image after a call is that with all its stores
-next-image : (y : Machine) (c : Call) → (next flex y c).img ≡ stored y.img (stores_of in_order y c)
+pub next-image : (y : Machine) (c : Call) → (next flex y c).img ≡ stored y.img (stores_of in_order y c)
 unfolding next outcome
 next-image y (setting n i v) = refl
 next-image y (extending n c) = refl
 next-image y (asking n b) = refl
 
-call-inside : (y : Machine) (c : Call) → Each (Inside (length y.img)) (stores_of in_order y c)
+pub call-inside : (y : Machine) (c : Call) → Each (Inside (length y.img)) (stores_of in_order y c)
 call-inside y (setting n i v) = tt
 call-inside y (extending n c) = tt
 call-inside y (asking n b) = (call-lawful y.img y.tab n b).inside
 
-next_small : (y : Machine) → Small y.img → Small y.tab → (c : Call) → SendsByte c → Small (stored y.img (stores_of in_order y c))
+pub next_small : (y : Machine) → Small y.img → Small y.tab → (c : Call) → SendsByte c → Small (stored y.img (stores_of in_order y c))
 next_small y s t (setting n i v) h = s
 next_small y s t (extending n c) h = s
 next_small y s t (asking n b) h = (call-lawful y.img y.tab n b).image_small (record { image = s; table = t; byte = h })
@@ -237,55 +154,6 @@ all-comes y c k h = ap (stored y.img) (take_all k (stores_of in_order y c) h) �
 
 module _ (M S : ℕ) (z : Shape M S) (y : Machine) (a : Ledger) (f : Fine M S y a) (small : Small y.img) (c : Call)
     (g : Staged S a (stores_of in_order y c)) where
-  -- while the last is missing: what matters is there; or the directory has grown. Whatever is sent
-  pub nothing-comes : (k : ℕ) → k < length (stores_of in_order y c)
-      → Intact S a y.img (stored y.img (take k (stores_of in_order y c))) ⊎ Longer S a y.img (stored y.img (take k (stores_of in_order y c))) (next flex y c).img
-  nothing-comes k b = rw (next-image y c) (missing M S z y.img y.tab a f.agrees small (stores_of in_order y c) g k b)
 
-  listed-are : sectors_in y y.img ≡ a.dir
+  pub listed-are : sectors_in y y.img ≡ a.dir
   listed-are = sectors-are M S z y a f
-
-  pub one-changes : (d : ℕ) × ((k : ℕ) → member k (sectors_in y y.img) ≡ true → k ≢ d → SameSector k (next flex y c).img y.img)
-  one-changes =
-      let o = one-listed M S z y.img y.tab a f.agrees small (stores_of in_order y c) g (call-inside y c) in (
-        o.0,
-        λ k t ne. ap (λ (w : List ℕ). part w (256 * k) 256) (next-image y c)
-            ∙ o.1 k (in-member k a.dir (ap (member k) (sym listed-are) ∙ t)) ne,
-      )
-
-  from-copy : Small (stored y.img (stores_of in_order y c)) → (m : List ℕ) → length m ≡ length y.img
-      → ((k : ℕ) → SameSector k m y.img ⊎ SameSector k m (next flex y c).img)
-      → ((k : ℕ) → 1 ≤ tally k a.dir → SameSector k m y.img) ⊎ ((k : ℕ) → tally k a.dir ≡ 0 → SameSector k m (next flex y c).img)
-      → Comes S y a c m
-  from-copy small' m l =
-      subst (λ (img' : List ℕ). ((k : ℕ) → SameSector k m y.img ⊎ SameSector k m img')
-      → ((k : ℕ) → 1 ≤ tally k a.dir → SameSector k m y.img) ⊎ ((k : ℕ) → tally k a.dir ≡ 0 → SameSector k m img') → Comes S y a c m)
-      (sym (next-image y c)) go
-    where
-      ss : List Store
-      ss = stores_of in_order y c
-
-      by : Intact S a y.img m ⊎ (m ≡ stored y.img ss) → Comes S y a c m
-      by (inl h) = before h
-      by (inr h) = after (h ∙ sym (next-image y c))
-
-      go : ((k : ℕ) → SameSector k m y.img ⊎ SameSector k m (stored y.img ss))
-          → ((k : ℕ) → 1 ≤ tally k a.dir → SameSector k m y.img) ⊎ ((k : ℕ) → tally k a.dir ≡ 0 → SameSector k m (stored y.img ss))
-          → Comes S y a c m
-      go v o = by (copied M S z y.img y.tab a f.agrees small ss small' m l v o g (call-inside y c))
-
-  pub short-comes : Small y.tab → SendsByte c → (m : List ℕ) → CutShort in_order y (next flex y c) c m → Comes S y a c m
-  short-comes t b m (stopped k e) = go (dec_lt k (length (stores_of in_order y c)))
-    where
-      by : Intact S a y.img (stored y.img (take k (stores_of in_order y c)))
-          ⊎ Longer S a y.img (stored y.img (take k (stores_of in_order y c))) (next flex y c).img → Comes S y a c m
-      by (inl h) = before (subst (Intact S a y.img) (sym e) h)
-      by (inr h) = between (subst (λ (w : List ℕ). Longer S a y.img w (next flex y c).img) (sym e) h)
-
-      go : Dec (k < length (stores_of in_order y c)) → Comes S y a c m
-      go (yes h) = by (nothing-comes k h)
-      go (no h) = after (e ∙ all-comes y c k (omega (arith, h)))
-  short-comes t b m (unlisted l v d) =
-      from-copy (next_small y small t c b) m l v (inl (λ k q. d k (ap (member k) listed-are ∙ member-in k a.dir q)))
-  short-comes t b m (listed l v d) =
-      from-copy (next_small y small t c b) m l v (inr (λ k q. d k (ap (member k) listed-are ∙ member-no k a.dir q)))

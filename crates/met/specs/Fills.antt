@@ -23,7 +23,8 @@ use Rattle.chains.specs.Directory.{spot, placed-spot}
 use Rattle.chains.specs.Snoc.{snoc-other, snoc-last, length-snoc}
 use Rattle.laws.specs.Each.{Each}
 use Rattle.laws.specs.Stores.{Within, stored-off, stored_at, puts-off, puts-at}
-use Rattle.chains.specs.Frame.{Frame, framed, in_sector}
+use Rattle.chains.specs.Frame.{Frame, in_sector}
+use Rattle.chains.proofs.Frame.{framed}
 use Rattle.demands.specs.Ledger.{File, no_file, Block, closed, listing, reading, writing, Ledger, Request, set_block, set_file, with_last, pad_to, shut_block}
 use Rattle.met.specs.Relation.{tb, t2, opens, writes, Holds, Reading, Writing, Listed, Keeps, Agrees, t2-same, tp-same, Turn, step}
 use Rattle.met.specs.Quiet.{turned, on-block, shut-block, alone1, alone2, nobody}

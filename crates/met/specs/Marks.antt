@@ -13,7 +13,8 @@ use Rattle.chains.specs.Addresses.{absurd-bool}
 use Rattle.chains.specs.Chain.{Chain, pieces, pieces-same, chain_same}
 use Rattle.chains.specs.Directory.{Spot, spot, spot-sector}
 use Rattle.laws.specs.Stores.{stored-off, stored_at}
-use Rattle.chains.specs.Frame.{Frame, framed, in_slot}
+use Rattle.chains.specs.Frame.{Frame, in_slot}
+use Rattle.chains.proofs.Frame.{framed}
 use Rattle.demands.specs.Ledger.{File, no_file, Block, closed, Ledger, set_file, with_mark}
 use Rattle.met.specs.Relation.{opens, writes, Holds, Keeps, Agrees, Turn, step}
 use Rattle.met.specs.Sectors.{free_off}

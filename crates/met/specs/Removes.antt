@@ -27,7 +27,8 @@ use Rattle.chains.specs.Moves.{hung-on}
 use Rattle.laws.specs.Small.{small-two, small-six}
 use Rattle.laws.specs.Each.{Each}
 use Rattle.laws.specs.Stores.{Within, stored-off, stored_at, puts-off}
-use Rattle.chains.specs.Frame.{Frame, framed, Lies, in_record, in_sector, in_slot, of_nothing}
+use Rattle.chains.specs.Frame.{Frame, Lies, in_record, in_sector, in_slot, of_nothing}
+use Rattle.chains.proofs.Frame.{framed}
 use Rattle.demands.specs.Ledger.{File, no_file, Block, closed, Ledger, denied, granted, Sought, nowhere, slot, on_sought, file_named, busy, attributes, set_file, set_free, with_mark, with_name, joined, entry_of, deleted, renamed, request}
 use Rattle.met.specs.Relation.{t2, opens, Holds, Keeps, Agrees, tp-same, Turn, step, long}
 use Rattle.met.specs.Quiet.{turned, shut-writes, idle-kept}

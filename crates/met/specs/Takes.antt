@@ -25,7 +25,8 @@ use Rattle.chains.specs.Moves.{hung-on}
 use Rattle.laws.specs.Each.{Each}
 use Rattle.chains.specs.Snoc.{length-snoc}
 use Rattle.laws.specs.Stores.{Within, Off, in_image, Piece, begins, bytes_of, none, in_block, stored-off, stored_at, puts-off, puts-at}
-use Rattle.chains.specs.Frame.{Frame, framed, Lies, in_record, in_sector, in_slot, of_nothing}
+use Rattle.chains.specs.Frame.{Frame, Lies, in_record, in_sector, in_slot, of_nothing}
+use Rattle.chains.proofs.Frame.{framed}
 use Rattle.demands.specs.Ledger.{File, no_file, closed, writing, Ledger, Request, denied, granted, set_free, with_new, taken, transferred}
 use Rattle.met.specs.Relation.{tb, t2, opens, writes, Holds, Writing, Agrees, tp-same, step, long}
 use Rattle.met.specs.Quiet.{turned, alone1, alone2, nobody}

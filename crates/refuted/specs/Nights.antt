@@ -19,7 +19,7 @@ use Rattle.demands.specs.History.{Scene, scenes, Plain, changing, Unnamed}
 use Rattle.demands.specs.Demands.{sectors_in, place_in, AsItWas, Start, told, past}
 use Rattle.demands.specs.Repairs.{LiveFile, SameSector, broken_off}
 use Rattle.demands.specs.Cuts.{in_order, stores_of, CutShort, stopped, unlisted, listed, unused_in, files_in, mended_of, Recovered, Night, called, morning, nights, Untouched, storing, Passes, Pass}
-use Rattle.cutting.specs.Theorem.{power-cut}
+use Rattle.cutting.proofs.Theorem.{power-cut}
 use Rattle.refuted.specs.All.{demands}
 use Rattle.refuted.specs.Pair.{b_dat, pair, pair-start, full, full_start, paired}
 use Rattle.refuted.specs.Run.{outcomes, unhit, tame, plainly, unnamed}

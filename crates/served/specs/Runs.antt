@@ -22,7 +22,6 @@ use Rattle.mending.specs.Repairs.{Answered, repair-is}
 use Rattle.demands.specs.Ledger.{Call, setting, extending, asking}
 use Rattle.demands.specs.Service.{Wanted, Service, flex, img_of, tab_of, ans_of, byte_of, Machine, Entry, outcome, next, entry, run, log}
 use Rattle.served.specs.Entries.{limit, Held, Askable, Entries, Kept, service_of, Same}
-use Rattle.served.specs.Served.{served}
 
 -- a call that a host can make
 abbrev pub Made : Call → Type 0
@@ -104,8 +103,3 @@ module _ (σ : Service) (s : Same σ flex) where
         ap (λ (y : Machine). run σ y cs) n ∙ ih.0,
         ap₂ (λ (y : Entry) (l : List Entry). y ∷ l) d (ap (λ (y : Machine). log σ y cs) n ∙ ih.1),
       )
-
--- so does the service that a host builds from entries that keep their promises
-pub served-runs : (h : Entries) → Kept h → (x : Machine) → HeldMachine x → (cs : List Call) → Each Made cs
-    → (run (service_of h) x cs ≡ run flex x cs) × (log (service_of h) x cs ≡ log flex x cs)
-served-runs h k = runs_same (service_of h) (served h k)

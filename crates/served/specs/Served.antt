@@ -37,64 +37,20 @@ call-served img tab n b r i t g p =
 
 -- ---- the census: its outputs read back
 
-abbrev back_of : Survey → Survey
+abbrev pub back_of : Survey → Survey
 back_of (survey e us ws) = survey e (words us) (words ws)
 
 -- one test decides both
-pick-both : (t : Bool) (x y u v : Survey) → (t ≡ true → back_of x ≡ u) → (t ≡ false → back_of y ≡ v) → back_of (pick t x y) ≡ pick t u v
+pub pick-both : (t : Bool) (x y u v : Survey) → (t ≡ true → back_of x ≡ u) → (t ≡ false → back_of y ≡ v) → back_of (pick t x y) ≡ pick t u v
 pick-both true x y u v p q = p refl
 pick-both false x y u v p q = q refl
 
-eqb-twice : (m n : ℕ) → eqb (2 * m) (2 * n) ≡ eqb m n
+pub eqb-twice : (m n : ℕ) → eqb (2 * m) (2 * n) ≡ eqb m n
 eqb-twice m n = go (eqb m n) refl
   where
     go : (b : Bool) → eqb m n ≡ b → eqb (2 * m) (2 * n) ≡ b
     go true e = eq-eqb (2 * m) (2 * n) (omega (arith, eqb-true m n e))
     go false e = ne_eqb (2 * m) (2 * n) (λ h. eqb-false m n e (omega arith))
 
-abbrev fault_of : List ℕ → ℕ
+abbrev pub fault_of : List ℕ → ℕ
 fault_of img = fault img (last_track img) (per_track img)
-
--- 42 to 46, or both lists
-found : (img : List ℕ) → Shaped img
-    → back_of (host_concluded img (last_track img) (per_track img) (fault_of img)) ≡ concluded img (last_track img) (per_track img) (fault_of img)
-unfolding host_concluded concluded
-found img z =
-    pick-both (eqb (fault_of img) 0) _ _ _ _
-    (λ e. let s = (fault-is img (last_track img) (per_track img)).1 (eqb-true (fault_of img) 0 e) in
-    ap₂ (survey 0) (words_back (listed img (last_track img) (per_track img)) (listed-fit img z s)) (words_back (owners img (last_track img) (per_track img)) (owners-fit img z s)))
-    (λ e. ap₂ (survey (fault_of img)) (words-full (data_sectors img)) (words-full (data_sectors img)))
-
-module _ (img xs ys : List ℕ) (p : Output xs) (q : Output ys) where
-  -- 40, 41
-  kept : (e : ℕ) → back_of (survey e (as_bytes xs) (as_bytes ys)) ≡ survey e xs ys
-  kept e = ap₂ (survey e) (words_back xs p.numbers) (words_back ys q.numbers)
-
-  census-back : back_of (host_census img (as_bytes xs) (as_bytes ys)) ≡ census img xs ys
-  unfolding host_census census
-  census-back =
-      rw (length-bytes xs, length-bytes ys, eqb-twice (length xs) (data_sectors img), eqb-twice (length ys) (data_sectors img))
-      (pick-both (shape_right img) _ _ _ _
-      (λ z. pick-both (eqb (length xs) (data_sectors img)) _ _ _ _
-      (λ h. pick-both (eqb (length ys) (data_sectors img)) _ _ _ _ (λ k. found img (shape_is img z)) (λ k. kept 40))
-      (λ h. kept 40))
-      (λ z. kept 41))
-
-  pub census-served : (r : ℕ) (us ws : List ℕ) → CensusPromise img (as_bytes xs) (as_bytes ys) r us ws → read_back (r, us, ws) ≡ flex.census img xs ys
-  census-served r us ws c = ap back_of c ∙ census-back
-
--- ---- all seven
-
-pub served : Served
-served h k = record {
-  preset = λ tab n i v t a b c. preset-served tab n i v _ _ (k.preset tab n i v t a b c);
-  extension = λ tab n c t a b. extension-served tab n c _ _ (k.extension tab n c t a b);
-  call = λ img tab n b i t a c. call-served img tab n b _ _ _ (record { image = i.bytes; table = t.bytes; byte = c }) (k.call img tab n b i t a c);
-  census = λ img xs ys i p q. census-served img xs ys p q _ _ _ (k.census img (as_bytes xs) (as_bytes ys) i (lent xs p) (lent ys q));
-  text = λ m e t a. k.text m e t a;
-  format = λ img w i a. k.format img w i a;
-  repair = λ img tab i t. k.repair img tab i t;
-}
-  where
-    lent : (zs : List ℕ) → Output zs → Held (as_bytes zs)
-    lent zs o = record { bytes = small_bytes zs; long = o.long }

@@ -18,10 +18,6 @@ unfolding words as_bytes two
 words_back [] h = refl
 words_back (x ∷ xs) h = ap₂ (λ (v : ℕ) (l : List ℕ). v ∷ l) (two_back x _ _ h.0 refl refl) (words_back xs h.1)
 
--- so no two lists have the same bytes
-pub bytes-injective : (xs ys : List ℕ) → Each (λ (x : ℕ). x < 65536) xs → Each (λ (x : ℕ). x < 65536) ys → as_bytes xs ≡ as_bytes ys → xs ≡ ys
-bytes-injective xs ys h k e = sym (words_back xs h) ∙ ap words e ∙ words_back ys k
-
 two-of : (x y : ℕ) → x < 256 → y < 256 → two (x * 256 + y) ≡ x ∷ y ∷ []
 unfolding two
 two-of x y h k =

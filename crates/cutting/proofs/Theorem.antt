@@ -18,11 +18,12 @@ use Rattle.demands.specs.Cuts.{in_order, stores_of, Makes, CutShort, mended_of, 
 use Rattle.met.specs.Joins.{run_more, plain-before}
 use Rattle.met.specs.Runs.{Fine, always, start-shape, start_fine}
 use Rattle.met.specs.Third.{demand3}
+use Rattle.cutting.proofs.Shorts.{nothing-comes, short-comes, one-changes}
 use Rattle.cutting.specs.Kinds.{Intact, Longer, Comes, before, between, after}
-use Rattle.cutting.specs.Calls.{call-staged}
-use Rattle.cutting.specs.Shorts.{intact-same, nothing-comes, all-comes, short-comes, one-changes}
-use Rattle.cutting.specs.Intact.{no_longer, intact-recovers}
-use Rattle.cutting.specs.Grown.{grown-recovers, grown-sectors}
+use Rattle.cutting.proofs.Calls.{call-staged}
+use Rattle.cutting.specs.Shorts.{intact-same, all-comes}
+use Rattle.cutting.proofs.Intact.{no_longer, intact-recovers}
+use Rattle.cutting.proofs.Regrown.{grown-recovers, grown-sectors}
 use Rattle.cutting.specs.Unfinished.{unfinished}
 use Rattle.cutting.specs.Outcomes.{after-cut}
 use Rattle.cutting.specs.Nights.{nights-begin, nights-last}

@@ -32,10 +32,11 @@ use Rattle.met.specs.Tidy.{tidy-more}
 use Rattle.met.specs.Forms.{formed-start}
 use Rattle.met.specs.Runs.{Fine}
 use Rattle.met.specs.Stays.{not_within}
+use Rattle.cutting.proofs.Harms.{rest-matters}
 use Rattle.cutting.specs.Kinds.{Matters, linked_stores, Longer}
-use Rattle.cutting.specs.Harms.{sectors-are, in_rest, rest-matters}
+use Rattle.cutting.specs.Harms.{sectors-are, in_rest}
 use Rattle.cutting.specs.Shorts.{intact-same}
-use Rattle.cutting.specs.Intact.{no_longer, intact-there, intact-recovers}
+use Rattle.cutting.proofs.Intact.{no_longer, intact-there, intact-recovers}
 use Rattle.cutting.specs.Outcomes.{live-file, as_it_was, found-again}
 
 module _ (M S : ℕ) (z : Shape M S) (y : Machine) (a : Ledger) (f : Fine M S y a) (small : Small y.img) (k : ℕ) (fr : List ℕ) (ef : a.free ≡ k ∷ fr)
@@ -123,11 +124,11 @@ module _ (M S : ℕ) (z : Shape M S) (y : Machine) (a : Ledger) (f : Fine M S y 
   per-same : per_track_of y ≡ per_track m
   per-same = ag.shaped.per ∙ sym longer-agrees.shaped.per
 
-  sectors-own : directory X.img (last_track_of y) (per_track_of y) ≡ a.dir ++ k ∷ []
+  pub sectors-own : directory X.img (last_track_of y) (per_track_of y) ≡ a.dir ++ k ∷ []
   sectors-own = ap₂ (λ (u v : ℕ). directory X.img u v) last-same per-same ∙ sectors-now
 
   -- so has the directory with the new file, whose 24 bytes are no link
-  sectors-filled : (entry : List ℕ) → length entry ≡ 24 → directory (stored m (store k 16 entry ∷ [])) M S ≡ a.dir ++ k ∷ []
+  pub sectors-filled : (entry : List ℕ) → length entry ≡ 24 → directory (stored m (store k 16 entry ∷ [])) M S ≡ a.dir ++ k ∷ []
   sectors-filled entry l =
       (directory-is M S z (stored m (store k 16 entry ∷ [])) (a.dir ++ k ∷ []) longer-agrees.listing
       (seg_same S m (stored m (store k 16 entry ∷ [])) (a.dir ++ k ∷ []) 0
@@ -175,7 +176,7 @@ module _ (M S : ℕ) (z : Shape M S) (y : Machine) (a : Ledger) (f : Fine M S y 
     rest-kept : byte_at X.img p ≡ byte_at img p
     rest-kept = intact-there M S z (left_with m tab) a' fine small' m (intact-same S a' m m small' refl) tab tl shut p grown-matters ∙ linked-off
 
-  recovered : Recovered flex y a 1 m tab
+  pub recovered : Recovered flex y a 1 m tab
   recovered = record {
     answer = it.answer;
     begins = it.begins;
@@ -191,17 +192,3 @@ module _ (M S : ℕ) (z : Shape M S) (y : Machine) (a : Ledger) (f : Fine M S y 
         (subst (λ (ds : List ℕ). in_link (last_of ds 4) p ≡ false) (sectors-are M S z y a f) off) u (omega arith));
     recopies = it.recopies;
   }
-
--- THE DIRECTORY, GROWN, WITHOUT THE NEW FILE: every file is as it was
-pub grown-recovers : (M S : ℕ) (z : Shape M S) (y : Machine) (a : Ledger) → Fine M S y a → Small y.img → (m img' : List ℕ) → Longer S a y.img m img'
-    → (tab : List ℕ) → length tab ≡ 2560 → Closed tab → Recovered flex y a 1 m tab
-grown-recovers M S z y a f small m img' g tab tl shut =
-    subst (λ (w : List ℕ). Recovered flex y a 1 w tab) (sym g.is) (recovered M S z y a f small g.taken g.rest g.free tab tl shut)
-
--- and the directory has the sectors that it has with the new file
-pub grown-sectors : (M S : ℕ) (z : Shape M S) (y : Machine) (a : Ledger) → Fine M S y a → Small y.img → (m img' : List ℕ) → Longer S a y.img m img'
-    → (tab : List ℕ) → length tab ≡ 2560 → Closed tab → sectors_in y (mended_of flex m tab) ≡ directory img' M S
-grown-sectors M S z y a f small m img' g tab tl shut =
-    ap (λ (w : List ℕ). sectors_in y (mended_of flex w tab)) g.is ∙ sectors-own M S z y a f small g.taken g.rest g.free tab tl shut
-    ∙ sym (ap (λ (w : List ℕ). directory w M S) (g.filled ∙ ap (λ (w : List ℕ). stored w (store g.taken 16 g.entry ∷ [])) g.is)
-    ∙ sectors-filled M S z y a f small g.taken g.rest g.free tab tl shut g.entry g.long)

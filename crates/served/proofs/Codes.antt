@@ -1,5 +1,4 @@
 -- FROM THE CODE: an exported entry's contract asks nothing of a caller, and what a caller learns by it is the reply of the demands' service. Here a
--- are the arguments, r is the answer and s what the arguments are at exit, as Rattle has them.
 use Rattle.std.specs.Prelude.{◌≡◌, List, ℕ}
 use Rattle.rules.specs.Outcome.{told}
 use Rattle.rules.specs.Host.{as_bytes}
@@ -21,7 +20,8 @@ use Rattle.flex.proofs.flex_repair.Kinds as repair
 use Rattle.flex.proofs.flex_repair.Reads as repair_reads
 use Rattle.demands.specs.Service.{Wanted, flex}
 use Rattle.served.specs.Entries.{Output, apart, read_back}
-use Rattle.served.specs.Served.{preset-served, extension-served, call-served, census-served}
+use Rattle.served.specs.Served.{preset-served, extension-served, call-served}
+use Rattle.served.proofs.Served.{census-served}
 
 pub preset-code : Ensures 1 preset.ps preset.r preset_reads.Asked preset_reads.Learnt
     (λ κs a r s. told r s.0.now ≡ flex.preset a.0.now a.1.0 a.1.1.0 a.1.1.1.0)
