@@ -18,13 +18,13 @@ use Rattle.demands.specs.Demands.{survey_answer, Closed, Start, Sound, Demand1, 
 use Rattle.demands.specs.Repairs.{FromRepair}
 use Rattle.demands.specs.Sequences.{Restarts, Deed, calling, formatting, repairing, checking, Stage, stage, here, onward, reached, AllProper, Lasts}
 use Rattle.demands.specs.Cuts.{PowerCut, in_order}
-use Rattle.met.specs.First.{demand1}
-use Rattle.met.specs.Second.{demand2}
-use Rattle.met.specs.Third.{demand3}
+use Rattle.met.proofs.First.{demand1}
+use Rattle.met.proofs.Second.{demand2}
+use Rattle.met.proofs.Third.{demand3}
 use Rattle.met.specs.Joins.{again}
 use Rattle.met.specs.Blanks.{from-blank}
-use Rattle.met.specs.Mends.{from-repair}
-use Rattle.met.specs.Sequences.{restarts, lasts}
+use Rattle.met.proofs.Mends.{from-repair}
+use Rattle.met.proofs.Sequences.{restarts, lasts}
 use Rattle.cutting.proofs.Theorem.{power-cut}
 use Rattle.served.specs.Entries.{Held, Output, Askable, Entries, Kept, service_of, Same}
 use Rattle.served.proofs.Served.{served}

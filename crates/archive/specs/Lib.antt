@@ -21,13 +21,13 @@ use Rattle.demands.specs.Demands.{survey_answer, Closed, Start, Sound, Demand1, 
 use Rattle.demands.specs.Repairs.{FromRepair}
 use Rattle.demands.specs.Sequences.{Restarts, Deed, calling, formatting, repairing, checking, Stage, stage, here, onward, reached, AllProper, Lasts}
 use Rattle.demands.specs.Cuts.{PowerCut, in_order}
-use Rattle.met.specs.First.{demand1}
-use Rattle.met.specs.Second.{demand2}
-use Rattle.met.specs.Third.{demand3}
+use Rattle.met.proofs.First.{demand1}
+use Rattle.met.proofs.Second.{demand2}
+use Rattle.met.proofs.Third.{demand3}
 use Rattle.met.specs.Joins.{again}
 use Rattle.met.specs.Blanks.{from-blank}
-use Rattle.met.specs.Mends.{from-repair}
-use Rattle.met.specs.Sequences.{restarts, lasts}
+use Rattle.met.proofs.Mends.{from-repair}
+use Rattle.met.proofs.Sequences.{restarts, lasts}
 use Rattle.cutting.proofs.Theorem.{power-cut}
 use Rattle.served.specs.Entries.{Held, Output, Askable, Entries, Kept, service_of, Same}
 use Rattle.served.proofs.Served.{served}
@@ -85,8 +85,8 @@ zeros-output img h = record {
 
 -- image and table of the last start, and the calls since, are such as a host can hold and make
 pub record Handled (g : Stage) : Type 0 where
-  machine : HeldMachine g.start
-  calls : Each Made g.calls
+  pub machine : HeldMachine g.start
+  pub calls : Each Made g.calls
 
 module _ (σ : Service) (s : Same σ flex) where
   here-same : (g : Stage) → Handled g → here σ g ≡ here flex g
@@ -106,10 +106,10 @@ module _ (σ : Service) (s : Same σ flex) where
   left-same g r r' m e = ap₂ (λ (o : Reply) (y : Machine). stage (record { img = left_of o; tab = y.tab })) e (here-same g m)
 
   -- so a sequence leads to the same place, and is proper for both
-  record Carried (g : Stage) (ds : List Deed) : Type 0 where
-    place : reached σ g ds ≡ reached flex g ds
-    proper : AllProper flex g ds
-    handled : Handled (reached flex g ds)
+  pub record Carried (g : Stage) (ds : List Deed) : Type 0 where
+    pub place : reached σ g ds ≡ reached flex g ds
+    pub proper : AllProper flex g ds
+    pub handled : Handled (reached flex g ds)
 
   pub carried : (ds : List Deed) (g : Stage) → Handled g → Each Doable ds → AllProper σ g ds → Carried g ds
   unfolding reached

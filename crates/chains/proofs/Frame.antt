@@ -1,4 +1,4 @@
--- Frames: what stores into the information record, into some data sectors and into one slot leave as it is.
+-- The frame of such stores, proved (specs/Frame says what it is).
 use Rattle.std.specs.Prelude.{◌≡◌, ◌≢◌, List, [], ◌∷◌, ℕ, ◌+◌, ◌*◌, ◌/◌, ◌≤◌, ◌<◌, length, get_or}
 use Rattle.std.proofs.Common.{sym, ap, subst, arith}
 use Rattle.rules.specs.Bytes.{over}

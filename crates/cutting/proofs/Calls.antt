@@ -42,7 +42,7 @@ use Rattle.met.specs.Sectors.{free-data, secs-data}
 use Rattle.met.specs.Frees.{first-is, first-index, off-is}
 use Rattle.met.specs.Searches.{find-is, looked_up, seek_found}
 use Rattle.met.specs.Fills.{w, placed-is}
-use Rattle.met.specs.Runs.{Fine}
+use Rattle.met.proofs.Runs.{Fine}
 use Rattle.cutting.specs.Kinds.{Harmless, Staged, none, lone, early, grows}
 use Rattle.cutting.specs.Harms.{record-harmless, free-harmless, last-harmless}
 

@@ -1,4 +1,4 @@
--- What matters: all of the directory's sectors, and of track 0 all but the free chain's record. Stores that cover no byte that matters: into the record of
+-- What matters is the same where the directory's sectors and the files' are.
 use Rattle.std.specs.Prelude.{◌≡◌, refl, ◌≢◌, ◌⊎◌, true, List, ℕ, ◌+◌, ◌-◌, ◌*◌, ◌/◌, ◌%◌, ◌≤◌, ◌<◌, length, ltb}
 use Rattle.std.proofs.Common.{sym, ap, ◌∙◌, inl, inr, arith, ltb-true}
 use Rattle.std.proofs.Math.Decide.{ℕ_discrete, dec_lt}
@@ -17,7 +17,7 @@ use Rattle.demands.specs.Service.{Machine}
 use Rattle.demands.specs.Demands.{per_track_of, sectors_in}
 use Rattle.met.specs.Relation.{Agrees, all-le}
 use Rattle.met.specs.Sectors.{free-data, free_off, secs-data, secs-off, secs-once}
-use Rattle.met.specs.Runs.{Fine}
+use Rattle.met.proofs.Runs.{Fine}
 use Rattle.cutting.specs.Kinds.{Matters, of_front, of_head, of_slot, of_sector, Harmless}
 use Rattle.cutting.specs.Harms.{directory-matters}
 

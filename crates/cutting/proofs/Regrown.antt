@@ -29,8 +29,8 @@ use Rattle.met.specs.Unused.{unused-holds, unused-names, unused-dead}
 use Rattle.met.specs.Grown.{longer, grown-agrees}
 use Rattle.met.specs.Tidy.{tidy-more}
 use Rattle.met.specs.Forms.{formed-start}
-use Rattle.met.specs.Runs.{Fine}
-use Rattle.met.specs.Stays.{not_within}
+use Rattle.met.proofs.Runs.{Fine}
+use Rattle.met.proofs.Stays.{not_within}
 use Rattle.cutting.proofs.Harms.{rest-matters}
 use Rattle.cutting.specs.Kinds.{Matters, linked_stores, Longer}
 use Rattle.cutting.specs.Harms.{sectors-are, in_rest}

@@ -1,4 +1,4 @@
--- From the kind of a call's stores to what is left where the call is cut short: of the stores in order, and of a copy that is written sector by sector.
+-- What a call leaves that is cut short: what comes of the file of the call.
 use Rattle.std.specs.Prelude.{◌≡◌, refl, ◌≢◌, ◌⊎◌, true, List, [], ◌∷◌, ◌++◌, ℕ, zero, suc, ◌+◌, ◌*◌, ◌/◌, ◌≤◌, ◌<◌, length, take}
 use Rattle.std.proofs.Common.{sym, ap, ◌∙◌, subst, inl, inr, arith, length-append, ext_get_or, take_all}
 use Rattle.std.proofs.Math.Decide.{ℕ_discrete, dec_lt}
@@ -21,7 +21,7 @@ use Rattle.demands.specs.Demands.{sectors_in}
 use Rattle.demands.specs.Repairs.{SameSector}
 use Rattle.demands.specs.Cuts.{in_order, stores_of, CutShort, stopped, unlisted, listed}
 use Rattle.met.specs.Relation.{Agrees}
-use Rattle.met.specs.Runs.{Fine}
+use Rattle.met.proofs.Runs.{Fine}
 use Rattle.cutting.specs.Kinds.{Matters, Intact, Harmless, ToDirectory, Staged, none, lone, early, grows, Longer, Comes, before, between, after}
 use Rattle.cutting.specs.Harms.{directory-matters, sectors-are, record-harmless, free-harmless}
 use Rattle.cutting.specs.Shorts.{Into, all-comes, all_new, besides-kept, call-inside, cleared-free, harmless-intact, intact-same, into-last, into-own, kept, listed-are, next-image, next_small, old-sector, one-sector, record-small, sector-byte}

@@ -16,8 +16,8 @@ use Rattle.demands.specs.Demands.{last_track_of, per_track_of, Closed, Start, be
 use Rattle.demands.specs.Repairs.{SameSector}
 use Rattle.demands.specs.Cuts.{in_order, stores_of, Makes, CutShort, mended_of, Recovered, Survivable, PowerCut}
 use Rattle.met.specs.Joins.{run_more, plain-before}
-use Rattle.met.specs.Runs.{Fine, always, start-shape, start_fine}
-use Rattle.met.specs.Third.{demand3}
+use Rattle.met.proofs.Runs.{Fine, always, start-shape, start_fine}
+use Rattle.met.proofs.Third.{demand3}
 use Rattle.cutting.proofs.Shorts.{nothing-comes, short-comes, one-changes}
 use Rattle.cutting.specs.Kinds.{Intact, Longer, Comes, before, between, after}
 use Rattle.cutting.proofs.Calls.{call-staged}

@@ -22,7 +22,7 @@ use Rattle.demands.specs.Repairs.{mended, LiveFile}
 use Rattle.demands.specs.Cuts.{Order, left_with, Recovered, Night, called, Retried, storing, copied, morning, nights, Untouched, Passes, Pass, Survivable}
 use Rattle.met.specs.Searches.{part-part}
 use Rattle.met.specs.Joins.{log-append, plain-before}
-use Rattle.met.specs.Runs.{start-shape}
+use Rattle.met.proofs.Runs.{start-shape}
 
 -- ---- calls keep the shape, whatever service makes them: bytes 550 and 551 are none that a call may name
 

@@ -32,10 +32,10 @@ use Rattle.met.specs.Tidy.{found_name}
 use Rattle.met.specs.Survey.{file-back}
 use Rattle.met.specs.Changes.{Change, Changes, changes, Slot, kept, own, fresh, lost, moved, slot-fate, rename-legal, of-writer, own-live}
 use Rattle.met.specs.Joins.{run_more, history-more, plain_more, plain-before}
-use Rattle.met.specs.Runs.{scene_of, Fine, Likewise, asked, beyond, likewise-set, likewise-extend, likewise-refused, likewise-asked, step, always, start-shape, start_fine}
-use Rattle.met.specs.Sent.{concat-snoc, concat-last, other-call}
-use Rattle.met.specs.Stays.{then-onward, slot-stood, spared-name, spared-rest, spared-entry, spared-chain, spared-sectors}
-use Rattle.met.specs.Third.{begins}
+use Rattle.met.proofs.Runs.{scene_of, Fine, Likewise, asked, beyond, likewise-set, likewise-extend, likewise-refused, likewise-asked, step, always, start-shape, start_fine}
+use Rattle.met.proofs.Sent.{concat-snoc, concat-last, other-call}
+use Rattle.met.proofs.Stays.{then-onward, slot-stood, spared-name, spared-rest, spared-entry, spared-chain, spared-sectors}
+use Rattle.met.proofs.Third.{begins}
 
 -- ---- an image m that agrees with a ledger b, beside a machine y that agrees with a: what slot s of y is there, by what the two ledgers have in it
 

@@ -21,7 +21,7 @@ use Rattle.demands.specs.Demands.{sectors_in}
 use Rattle.demands.specs.Repairs.{SameSector}
 use Rattle.demands.specs.Cuts.{in_order, stores_of, CutShort, stopped, unlisted, listed}
 use Rattle.met.specs.Relation.{Agrees}
-use Rattle.met.specs.Runs.{Fine}
+use Rattle.met.proofs.Runs.{Fine}
 use Rattle.cutting.specs.Kinds.{Matters, Intact, Harmless, ToDirectory, Staged, none, lone, early, grows, Longer, Comes, before, between, after}
 use Rattle.cutting.specs.Harms.{directory-matters, sectors-are, record-harmless, free-harmless}
 
@@ -100,7 +100,6 @@ into-last S a n ss (store k i vs) h t b = record {
 -- ---- what is left
 
 module _ (M S : ℕ) (z : Shape M S) (img tab : List ℕ) (a : Ledger) (r : Agrees M S img tab a) (small : Small img) where
-
   pub record-small : (fr : List ℕ) → SmallStore (store 2 29 (chain_record S fr))
   unfolding chain_record
   record-small fr = small-six _ _ _
@@ -154,6 +153,5 @@ all-comes y c k h = ap (stored y.img) (take_all k (stores_of in_order y c) h) �
 
 module _ (M S : ℕ) (z : Shape M S) (y : Machine) (a : Ledger) (f : Fine M S y a) (small : Small y.img) (c : Call)
     (g : Staged S a (stores_of in_order y c)) where
-
   pub listed-are : sectors_in y y.img ≡ a.dir
   listed-are = sectors-are M S z y a f

@@ -17,9 +17,9 @@ use Rattle.demands.specs.Demands.{last_track_of, per_track_of, Start, begun, tol
 use Rattle.met.specs.Relation.{opens, writes}
 use Rattle.met.specs.Meets.{ledger_by}
 use Rattle.met.specs.Changes.{Change, still, turned, worked, dropped, made, grew, gone, retitled, Changes, changes, other_block, of-writer, own-live}
-use Rattle.met.specs.Runs.{Fine, Likewise, asked, beyond, likewise-set, likewise-extend, likewise-refused, likewise-asked, step, always, start-shape, start_fine}
+use Rattle.met.proofs.Runs.{Fine, Likewise, asked, beyond, likewise-set, likewise-extend, likewise-refused, likewise-asked, step, always, start-shape, start_fine}
 use Rattle.met.specs.Fills.{w}
-use Rattle.met.specs.Sent.{open_kept}
+use Rattle.met.proofs.Sent.{open_kept}
 
 -- ---- THE INVARIANT
 

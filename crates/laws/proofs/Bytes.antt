@@ -1,4 +1,4 @@
--- Bytes in a list: numbers of two bytes, parts, and what stands where after a store.
+-- A number's two bytes as a part of a list.
 use Rattle.std.specs.Prelude.{◌≡◌, List, [], ◌∷◌, ℕ, ◌+◌, ◌<◌, get_or}
 use Rattle.std.proofs.Common.{ap₂}
 use Rattle.rules.specs.Bytes.{word_at, part, two}

@@ -1,4 +1,4 @@
--- What every call, preset and default extension leaves: answers and bytes, lengths, where stores lie, what a refusal changes.
+-- What every call leaves is lawful (specs/Effects says what that is).
 use Rattle.std.specs.Prelude.{◌≡◌, true, ℕ, length, eqb}
 use Rattle.std.proofs.Math.Path.{refl}
 use Rattle.std.proofs.Common.{arith}

@@ -1,4 +1,5 @@
--- What each function may come to: the numbers it is refused with, its stores, its puts. On an image of the right shape; `asked` needs no such thing.
+-- What each function may come to, proved: the numbers it is refused with (specs/Facts has them), its stores, its puts. On an image of the right shape;
+-- `asked` needs no such thing.
 use Rattle.std.specs.Prelude.{◌≡◌, ℕ, ◌+◌, ◌-◌, ◌*◌, ◌/◌, ◌%◌, ◌≤◌, ◌<◌, length, eqb, ltb}
 use Rattle.std.proofs.Math.Path.{refl}
 use Rattle.std.proofs.Math.Bool.{true, false}

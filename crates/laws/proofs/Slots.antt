@@ -1,4 +1,4 @@
--- The directory: where its sectors and slots lie, what a scan finds, places and slots.
+-- Where a slot of the directory lies.
 use Rattle.std.specs.Prelude.{◌≡◌, true, ℕ, ◌≤◌}
 use mathlib.Core.List.{List}
 use Rattle.rules.specs.Directory.{member, directory, slots}

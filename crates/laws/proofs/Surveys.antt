@@ -1,4 +1,4 @@
--- What the census lists, what it answers and leaves in its outputs.
+-- What the census lists are numbers of data sectors, each once.
 use Rattle.std.specs.Prelude.{◌≡◌, true, List, ℕ, ◌*◌, ◌≤◌, ◌<◌, length}
 use Rattle.rules.specs.Image.{first_free, last_free, free_count}
 use Rattle.rules.specs.Directory.{directory, slots}

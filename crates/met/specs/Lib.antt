@@ -2,8 +2,6 @@
 pub mod Bounds
 pub mod Tames
 pub mod Blanks
-pub mod Mends
-pub mod First
 -- image and table agree with a ledger, and are then what it says
 pub mod Relation
 pub mod Quiet
@@ -23,23 +21,14 @@ pub mod Grown
 pub mod Grows
 pub mod Removes
 pub mod Lists
-pub mod Calls
 -- what calls leave; the census and the ledger; lists of calls
 pub mod Joins
 pub mod Tidy
 pub mod Changes
 pub mod Survey
 pub mod Forms
-pub mod Runs
-pub mod Rests
-pub mod Sent
-pub mod Got
-pub mod Stays
 -- demands 2 and 3
 pub mod Second
-pub mod Third
+
 -- any sequence of calls, formats and repairs; demand 1 is enough
-pub mod Sequences
-pub mod Ours
 -- what is shown and predicted knows no sectors
-pub mod Forget

@@ -30,7 +30,7 @@ use Rattle.laws.specs.Stores.{Within, stored-off, stored_at, puts-off}
 use Rattle.chains.specs.Frame.{Frame, Lies, in_record, in_sector, in_slot, of_nothing}
 use Rattle.chains.proofs.Frame.{framed}
 use Rattle.demands.specs.Ledger.{File, no_file, Block, closed, Ledger, denied, granted, Sought, nowhere, slot, on_sought, file_named, busy, attributes, set_file, set_free, with_mark, with_name, joined, entry_of, deleted, renamed, request}
-use Rattle.met.specs.Relation.{t2, opens, Holds, Keeps, Agrees, tp-same, Turn, step, long}
+use Rattle.met.specs.Relation.{opens, Holds, Keeps, Agrees, tp-same, Turn, step, long}
 use Rattle.met.specs.Quiet.{turned, shut-writes, idle-kept}
 use Rattle.met.specs.Meets.{Meets, meets-unless, meets-when}
 use Rattle.met.specs.Sectors.{free-data, free_off, secs-data, secs-off, secs-once, few, fits, linked-is}

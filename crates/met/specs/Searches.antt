@@ -6,7 +6,7 @@ use Rattle.std.proofs.Math.Bool.{true, false}
 use Prim.Native.Nat.{ℕ, zero, suc, ◌+◌, ◌≤◌, ◌<◌}
 use Rattle.std.proofs.Math.Decide.{ℕ_discrete}
 use Rattle.std.proofs.lemmas.Bool.{eqb-false, not-true}
-use Rattle.rules.specs.Bytes.{pick, part, same}
+use Rattle.rules.specs.Bytes.{pick, part}
 use Rattle.rules.specs.Names.{legal}
 use Rattle.rules.specs.Directory.{slots_of, never_used, deleted, live, scan, named, vacant, find, vacancy, place_of, attributes_at}
 use Rattle.rules.specs.Block.{counts, uses, used_below, in_use}

@@ -13,7 +13,7 @@ use Rattle.rules.specs.Bytes.{pick, word_at, one, two, six, zeros}
 use Rattle.rules.specs.Stores.{Store, store, stored, Put, put, puts}
 use Rattle.rules.specs.Directory.{slots_of, last_of, first}
 use Rattle.rules.specs.Outcome.{and_then}
-use Rattle.rules.specs.Transfer.{fresh, take_stores, take_puts, take_for, take_sector, sent, fill, writing as write_byte}
+use Rattle.rules.specs.Transfer.{fresh, take_stores, take_puts, take_for, sent, fill, writing as write_byte}
 use Rattle.laws.specs.Bytes.{word-put, part-is, part_same, length-zeros, zeros-at, length_two, length-fresh, fresh-zero}
 use Rattle.laws.specs.Small.{small-two, small-six, small-fresh}
 use Rattle.chains.specs.Tally.{tally, tally-append, tally-head, apart}
@@ -27,14 +27,14 @@ use Rattle.chains.specs.Snoc.{length-snoc}
 use Rattle.laws.specs.Stores.{Within, Off, in_image, Piece, begins, bytes_of, none, in_block, stored-off, stored_at, puts-off, puts-at}
 use Rattle.chains.specs.Frame.{Frame, Lies, in_record, in_sector, in_slot, of_nothing}
 use Rattle.chains.proofs.Frame.{framed}
-use Rattle.demands.specs.Ledger.{File, no_file, closed, writing, Ledger, Request, denied, granted, set_free, with_new, taken, transferred}
+use Rattle.demands.specs.Ledger.{File, no_file, closed, writing, Ledger, Request, denied, granted, set_free, with_new, transferred}
 use Rattle.met.specs.Relation.{tb, t2, opens, writes, Holds, Writing, Agrees, tp-same, step, long}
 use Rattle.met.specs.Quiet.{turned, alone1, alone2, nobody}
 use Rattle.met.specs.Meets.{Meets}
 use Rattle.met.specs.Sectors.{secs-data, secs-off, secs-once, few, fits, linked-is}
 use Rattle.met.specs.Frees.{k-data, k_off, k-in, k-new, fr-data, fr-off, count-is, first-is, first-data, first-index, left, off-is, free-now, spare-now}
 use Rattle.met.specs.Marks.{slot-low, slot_row, slot_apart, slot-in}
-use Rattle.met.specs.Fills.{w, placed-is, buffer-is, write-in, full-step, one-is}
+use Rattle.met.specs.Fills.{w, buffer-is, write-in, full-step, one-is}
 
 -- the record number of a fresh sector
 fresh-record : (size i : ℕ) → i < 2 → get_or (fresh size) (2 + i) 0 ≡ get_or (two size) i 0
@@ -54,7 +54,7 @@ module _ (M S : ℕ) (z : Shape M S) (img tab : List ℕ) (a : Ledger) (r : Agre
   abbrev o : ℕ
   o = get_or (slots_of a.dir) s 0
 
-  wr : Writing S (slots_of a.dir) tab n f s []
+  pub wr : Writing S (slots_of a.dir) tab n f s []
   wr = w M S z img tab a r n hn s [] e
 
   hs : s < length (slots_of a.dir)
@@ -377,7 +377,7 @@ module _ (M S : ℕ) (z : Shape M S) (img tab : List ℕ) (a : Ledger) (r : Agre
 -- ---- function 0 in writing
 
 module _ (M S : ℕ) (z : Shape M S) (img tab : List ℕ) (a : Ledger) (r : Agrees M S img tab a) (n : ℕ) (hn : n < 8) where
-  no_more : (s b : ℕ) → get_or a.blocks n closed ≡ writing s [] → a.free ≡ []
+  pub no_more : (s b : ℕ) → get_or a.blocks n closed ≡ writing s [] → a.free ≡ []
       → Meets M S img tab n (and_then (take_for img tab M S (320 * n) (get_or (slots_of a.dir) s 0)) (sent 4 b)) (denied 7)
   unfolding take_for
   no_more s b e ef =
@@ -385,12 +385,7 @@ module _ (M S : ℕ) (z : Shape M S) (img tab : List ℕ) (a : Ledger) (r : Agre
       let c : word_at img 545 ≡ 0 = r.free.size ∙ ap length ef in
       rw (wr.pos, last_fit M S z (get_or a.slots s no_file).secs (secs-data M S z img tab a r s wr.slot), c) (refl, omega arith)
 
-  first_byte : (q : Request) (s : ℕ) → get_or a.blocks n closed ≡ writing s [] → (x : List ℕ) → a.free ≡ x
-      → Meets M S img tab n (and_then (take_for img tab M S (320 * n) (get_or (slots_of a.dir) s 0)) (sent 4 q.byte)) (taken M S a n q s x)
-  first_byte q s e [] ef = no_more s q.byte e ef
-  first_byte q s e (k ∷ fr) ef = take_meets M S z img tab a r n hn s e k fr ef q.byte
-
-  next-byte : (q : Request) (s : ℕ) (ub : List ℕ) → get_or a.blocks n closed ≡ writing s ub → 1 ≤ length ub
+  pub next-byte : (q : Request) (s : ℕ) (ub : List ℕ) → get_or a.blocks n closed ≡ writing s ub → 1 ≤ length ub
       → Meets M S img tab n (write_byte img tab M S (320 * n) q.byte) (transferred M S a n q (writing s ub))
   unfolding write_byte fill sent
   next-byte q s ub e h = go (ℕ_discrete (length ub) 251)
@@ -419,11 +414,3 @@ module _ (M S : ℕ) (z : Shape M S) (img tab : List ℕ) (a : Ledger) (r : Agre
           let y = wr.short in
           rw (ne_eqb (tb tab n 34) 0 (omega arith), ne_eqb (tb tab n 34) 255 (omega arith), ne_eqb (length ub) 0 (omega arith), ne_eqb (length ub) 251 p, x)
           (refl, refl, unfold one in (omega (arith, y), (omega arith, tt)), λ plain. write-in M S z img tab a r n hn s ub e q.byte h (omega arith))
-
-  pub write_meets : (q : Request) (s : ℕ) (ub : List ℕ) → get_or a.blocks n closed ≡ writing s ub
-      → Meets M S img tab n (write_byte img tab M S (320 * n) q.byte) (transferred M S a n q (writing s ub))
-  unfolding write_byte take_sector
-  write_meets q s [] e =
-      let wr = w M S z img tab a r n hn s [] e in
-      rw (eq-eqb (tb tab n 34) 0 (wr.idle refl), placed-is M S z img tab a r n hn s [] e) (first_byte q s e a.free refl)
-  write_meets q s (x ∷ ub) e = next-byte q s (x ∷ ub) e (omega arith)

@@ -22,7 +22,7 @@ use Rattle.demands.specs.Demands.{Lent, first_refusal, looks, InWords, survey_an
 use Rattle.demands.specs.Repairs.{RightlyChained}
 use Rattle.demands.specs.Sequences.{listed_in}
 use Rattle.demands.specs.Fakes.{asks_for, transfers, spoilt, as_on, slot_of_name, damaged, emptied, refusing, misextending, wiping, misnoting, stalling, purging, softening, heedless, data_left, hasty, hoarding, rash, interleaving, harming, doubling, gutting, scouring, posing, leaving, remembering, wrapping, overlong, numberless, tidying, hiding, widening}
-use Rattle.met.specs.First.{demand1}
+use Rattle.met.proofs.First.{demand1}
 use Rattle.refuted.specs.All.{demands}
 use Rattle.refuted.specs.Run.{outcomes}
 use Rattle.refuted.specs.Pair.{b_dat, b_dat_at, below, small-below, pair_image, pair, pair-start, paired}

@@ -16,10 +16,10 @@ use Rattle.demands.specs.History.{Plain, shown}
 use Rattle.demands.specs.Demands.{survey_answer, sectors_in, slots_in, place_in, chain_of, AsItWas, Start, told, past, Sound, Again, Demand1}
 use Rattle.demands.specs.Repairs.{repairs, mended, LiveFile, Has, SharesNothing, kept_of, TakenByNone, in_record, free_of, FromRepair, reach_of}
 use Rattle.demands.specs.Fakes.{shamming, straying, narrow, emptying, pretending, favouring, adopting, turning, scrubbing, maps_left, mapping, barging, shirking}
-use Rattle.met.specs.Mends.{from-repair}
+use Rattle.met.proofs.Mends.{from-repair}
 use Rattle.met.specs.Joins.{again}
-use Rattle.met.specs.Second.{demand2}
-use Rattle.met.specs.Third.{demand3}
+use Rattle.met.proofs.Second.{demand2}
+use Rattle.met.proofs.Third.{demand3}
 use Rattle.refuted.specs.All.{demands}
 use Rattle.refuted.specs.Pair.{b_dat, b_dat_at, below, small-below, closed-eight, pair_image, pair, pair-start, paired}
 use Rattle.refuted.specs.Run.{outcomes}

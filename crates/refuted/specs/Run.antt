@@ -12,7 +12,7 @@ use Rattle.demands.specs.Ledger.{Call, setting, extending, asking, Ledger, Block
 use Rattle.demands.specs.Service.{flex, Machine, Entry, answers, gave, next, run, log}
 use Rattle.demands.specs.History.{Scene, history, scenes, raw, Plain, hits, changing, Unnamed, ahead}
 use Rattle.demands.specs.Demands.{Start, last_track_of, per_track_of, begun, told, past, Asks, Idle, in_slot, in_link, sectors_in, slots_in, place_in, Begins, Sound}
-use Rattle.met.specs.Third.{demand3}
+use Rattle.met.proofs.Third.{demand3}
 use Rattle.refuted.specs.All.{demands}
 use Rattle.refuted.specs.Pair.{below, small-below, pair, pair-start, full, paired}
 

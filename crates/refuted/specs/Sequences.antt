@@ -13,7 +13,7 @@ use Rattle.demands.specs.History.{Plain}
 use Rattle.demands.specs.Demands.{Closed, Typed, told, past}
 use Rattle.demands.specs.Sequences.{Shut, Restarts, Deed, calling, formatting, repairing, checking, stage, reached, here, AllProper, EachOnce, Lasting, Lasts}
 use Rattle.demands.specs.Fakes.{hoarding, pretending, miscounting}
-use Rattle.met.specs.Sequences.{lasts}
+use Rattle.met.proofs.Sequences.{lasts}
 use Rattle.refuted.specs.All.{demands}
 use Rattle.refuted.specs.Pair.{below, small-below, closed-eight, pair, pair-start, paired}
 use Rattle.refuted.specs.Run.{outcomes}

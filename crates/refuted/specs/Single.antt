@@ -9,7 +9,7 @@ use Rattle.demands.specs.Ledger.{Call, setting, extending, asking, writes_raw, L
 use Rattle.demands.specs.Service.{Service, Machine, Entry, next, entry, run, log}
 use Rattle.demands.specs.History.{then, history, scenes, Told, raw, Plain}
 use Rattle.demands.specs.Demands.{last_track_of, per_track_of, Demand1, Start, begun, told, past, Demand3}
-use Rattle.met.specs.Ours.{ours}
+use Rattle.met.proofs.Ours.{ours}
 use Rattle.met.specs.Joins.{plain-before, last_scene, plain-less, plain_more}
 
 module _ (M S : ℕ) (σ τ : Service) where

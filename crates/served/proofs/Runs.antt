@@ -1,4 +1,4 @@
--- Lists of calls: a service that is the same to a host as the demands' leaves the same log, image and table, whatever a host calls.
+-- Lists of calls, through a host's service: the same log, image and table as through the demands'.
 use Rattle.std.specs.Prelude.{◌≡◌, refl, ℕ, ◌<◌, length}
 use Rattle.std.proofs.Common.{sym, ◌∙◌, subst, arith}
 use Rattle.std.proofs.Math.Path.{ap, ap₂}

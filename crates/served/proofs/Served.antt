@@ -1,4 +1,4 @@
--- THE THEOREM: the promises give the service. Each promise by itself first, then all seven.
+-- THE THEOREM: the promises give the service. The census's promise, then all seven; the others by themselves are in specs/Served.
 use Rattle.std.specs.Prelude.{◌≡◌, refl, Bool, true, false, List, ℕ, ◌*◌, length, eqb}
 use Rattle.std.proofs.Common.{ap, ap₂, ◌∙◌, arith, eqb-true, eq-eqb, ne_eqb}
 use Rattle.std.proofs.lemmas.Bool.{eqb-false}

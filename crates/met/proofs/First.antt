@@ -14,10 +14,11 @@ use Rattle.laws.specs.Effects.{lengths-kept, on_table-all, call-right, call-wron
 use Rattle.laws.proofs.Effects.{call-lawful}
 use Rattle.demands.specs.Service.{flex, leaves}
 use Rattle.demands.specs.Demands.{Lent, first_refusal, names, InWords, Demand1}
-use Rattle.met.specs.Bounds.{touches, untouched, Tame, tame-settled}
+use Rattle.met.specs.Bounds.{touches, untouched, Tame}
+use Rattle.met.proofs.Bounds.{tame-settled}
 use Rattle.met.specs.Tames.{asked-tame}
 use Rattle.met.specs.Blanks.{formatted}
-use Rattle.met.specs.Mends.{repaired}
+use Rattle.met.proofs.Mends.{repaired}
 
 -- ---- what is due before all else
 

@@ -28,7 +28,7 @@ use Rattle.demands.specs.History.{noted, Scene, then, history, scenes, Told, raw
 use Rattle.demands.specs.Demands.{Start, begun, survey_answer, data_sectors}
 use Rattle.met.specs.Relation.{Agrees}
 use Rattle.met.specs.Meets.{Sure, puts_by, ledger_by, Met}
-use Rattle.met.specs.Calls.{call_met, preset-still, extension-still, offset-is, extension-length}
+use Rattle.met.proofs.Calls.{call_met, preset-still, extension-still, offset-is, extension-length}
 use Rattle.met.specs.Tidy.{Tidy}
 use Rattle.met.specs.Changes.{Changes, changes, forms-kept, tidy-change, own-live}
 use Rattle.met.specs.Survey.{start-agrees, start-tidy}

@@ -18,7 +18,7 @@ use Rattle.met.specs.Tidy.{name_of, Tidy, found-there, found_name}
 use Rattle.met.specs.Changes.{Change, Changes, changes, length-grows, rename-legal, Slot, kept, own, fresh, lost, moved, slot-fate, writes-before}
 use Rattle.demands.specs.Service.{flex, Machine, answers, next, entry, log}
 use Rattle.demands.specs.History.{Scene, then, history, scenes, on_call, Plain, hits, name_after, name_then, ending, changing, Survives, Unnamed}
-use Rattle.met.specs.Runs.{scene_of, Fine, Likewise, asked, beyond, likewise-set, likewise-extend, likewise-refused, likewise-asked, step}
+use Rattle.met.proofs.Runs.{scene_of, Fine, Likewise, asked, beyond, likewise-set, likewise-extend, likewise-refused, likewise-asked, step}
 
 -- slot s has the file f, which is live, and no block writes it
 pub record Rests (a : Ledger) (s : ℕ) (f : File) : Type 0 where

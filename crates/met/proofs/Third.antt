@@ -29,14 +29,14 @@ use Rattle.demands.specs.Service.{flex, Machine, run, log, answers, gave}
 use Rattle.demands.specs.History.{scenes, Told, Plain, unfinished, pending, shown_from, shown, buffered, standing, files_on, concat, had, ahead}
 use Rattle.demands.specs.Demands.{Start, begun, told, past, Asks, places_of, Begins, Sound, Demand3}
 use Rattle.met.specs.Joins.{run_more, history-more, plain_more}
-use Rattle.met.specs.Runs.{Fine, asked, always, start-shape, start_fine}
-use Rattle.met.specs.Sent.{called-zero, fits_one}
-use Rattle.met.specs.Got.{Fetched, byte, over, fetched}
+use Rattle.met.proofs.Runs.{Fine, asked, always, start-shape, start_fine}
+use Rattle.met.proofs.Sent.{called-zero, fits_one}
+use Rattle.met.proofs.Got.{Fetched, byte, over, fetched}
 use Rattle.met.specs.Changes.{Onward}
-use Rattle.met.specs.Rests.{Rests, rests-same}
+use Rattle.met.proofs.Rests.{Rests, rests-same}
 use Rattle.met.specs.Picture.{entry-is, image-is}
 use Rattle.met.specs.Forms.{table_is}
-use Rattle.met.specs.Stays.{then-onward, history-onward, slot-stood, free_stays, shows, fetches, stays, spared-entry, spared-chain, spared-sectors}
+use Rattle.met.proofs.Stays.{then-onward, history-onward, slot-stood, free_stays, shows, fetches, stays, spared-entry, spared-chain, spared-sectors}
 use Rattle.chains.specs.Addresses.{absurd-bool, census-sane}
 
 first-left : (p : ℕ) (c : List ℕ) → get_or (drop p c) 0 0 ≡ get_or c p 0

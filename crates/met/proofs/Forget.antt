@@ -36,8 +36,8 @@ use Rattle.demands.specs.Demands.{Start, last_track_of, per_track_of, begun, pas
 use Rattle.met.specs.Relation.{Agrees}
 use Rattle.met.specs.Sectors.{free-data, secs-data}
 use Rattle.met.specs.Unused.{length-unused}
-use Rattle.met.specs.Calls.{extension-length}
-use Rattle.met.specs.Runs.{start-shape, start_fine}
+use Rattle.met.proofs.Calls.{extension-length}
+use Rattle.met.proofs.Runs.{start-shape, start_fine}
 
 -- ---- ledgers alike
 

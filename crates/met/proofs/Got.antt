@@ -20,8 +20,8 @@ use Rattle.met.specs.Relation.{opens, Reading, Keeps}
 use Rattle.demands.specs.Service.{flex, Machine, answers, gave, next, entry, log}
 use Rattle.demands.specs.History.{then, scenes, calls, concat, had, Plain, Only, read_to, Reads}
 use Rattle.met.specs.Meets.{ledger_by}
-use Rattle.met.specs.Runs.{scene_of, Fine, Likewise, asks-is, asked, likewise-set, likewise-extend, likewise-refused, likewise-asked, step}
-use Rattle.met.specs.Sent.{called_of, called-zero, fits_one, Untouched, untouched, other-call}
+use Rattle.met.proofs.Runs.{scene_of, Fine, Likewise, asks-is, asked, likewise-set, likewise-extend, likewise-refused, likewise-asked, step}
+use Rattle.met.proofs.Sent.{called_of, called-zero, fits_one, Untouched, untouched, other-call}
 
 -- ---- the bytes of sectors, one after another
 

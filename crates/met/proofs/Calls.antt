@@ -22,7 +22,7 @@ use Rattle.met.specs.Relation.{tb, opens, Reading, Writing, Keeps, Agrees, tp-sa
 use Rattle.met.specs.Quiet.{turned, activity-is, quiet, idle-quiet, idle-opens}
 use Rattle.met.specs.Meets.{Meets, meets-pick, meets-unless, Met, settles}
 use Rattle.met.specs.Reads.{read_meets, rewind-meets}
-use Rattle.met.specs.Takes.{write_meets}
+use Rattle.met.proofs.Takes.{write_meets}
 use Rattle.met.specs.Fills.{close-meets}
 use Rattle.met.specs.Opens.{open-read-meets}
 use Rattle.met.specs.Grows.{open-write-meets}

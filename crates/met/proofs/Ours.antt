@@ -3,8 +3,8 @@ use Rattle.std.specs.Prelude.{◌≡◌}
 use Rattle.std.proofs.Common.{sym, subst}
 use Rattle.demands.specs.Service.{Service, flex}
 use Rattle.demands.specs.Demands.{Demand1, Demand2, Demand3}
-use Rattle.met.specs.Second.{demand2}
-use Rattle.met.specs.Third.{demand3}
+use Rattle.met.proofs.Second.{demand2}
+use Rattle.met.proofs.Third.{demand3}
 
 -- it is ours
 pub ours : (σ : Service) → Demand1 σ → σ ≡ flex

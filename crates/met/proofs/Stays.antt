@@ -31,8 +31,8 @@ use Rattle.met.specs.Searches.{part-part}
 use Rattle.met.specs.Picture.{link-is, rest-is, entry-is, sector-is, image-is}
 use Rattle.met.specs.Changes.{Changes, changes, Onward, onward-same, onward_then, onward, Freed, same, fewer, more, freed}
 use Rattle.met.specs.Survey.{file-back}
-use Rattle.met.specs.Runs.{scene_of, Fine, Likewise, asked, beyond, block-after, likewise-set, likewise-extend, likewise-refused, likewise-asked, step}
-use Rattle.met.specs.Sent.{called_of}
+use Rattle.met.proofs.Runs.{scene_of, Fine, Likewise, asked, beyond, block-after, likewise-set, likewise-extend, likewise-refused, likewise-asked, step}
+use Rattle.met.proofs.Sent.{called_of}
 
 -- ---- the bytes that a free sector has
 

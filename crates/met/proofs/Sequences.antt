@@ -21,11 +21,11 @@ use Rattle.demands.specs.Demands.{last_track_of, per_track_of, survey_answer, da
 use Rattle.demands.specs.Repairs.{repairs, mended}
 use Rattle.demands.specs.Sequences.{Restarts, Deed, calling, formatting, repairing, checking, Stage, stage, formatted, here, onward, reached, AllProper, listed_in, EachOnce, Lasting, Lasts}
 use Rattle.met.specs.Blanks.{from-blank}
-use Rattle.met.specs.Mends.{from-repair}
+use Rattle.met.proofs.Mends.{from-repair}
 use Rattle.met.specs.Relation.{Keeps}
-use Rattle.met.specs.Runs.{Fine, start-sane, start-shape, start-shaped}
-use Rattle.met.specs.Second.{fine, demand2}
-use Rattle.met.specs.Third.{census-is, once-each, no-others, demand3}
+use Rattle.met.proofs.Runs.{Fine, start-sane, start-shape, start-shaped}
+use Rattle.met.proofs.Second.{fine, demand2}
+use Rattle.met.proofs.Third.{census-is, once-each, no-others, demand3}
 
 -- ---- image and table of bytes, and a table of eight blocks: any calls leave that so
 

@@ -23,7 +23,7 @@ use Rattle.demands.specs.Service.{flex, Machine, answers, next, entry, log}
 use Rattle.demands.specs.History.{then, history, scenes, calls, Plain, Only, sent_in, sent_by, unfinished, room, Accepts, concat, front, content}
 use Rattle.demands.specs.Demands.{counted}
 use Rattle.met.specs.Meets.{Sure, ledger_by}
-use Rattle.met.specs.Runs.{scene_of, Fine, Likewise, asks-is, asked, beyond, likewise-set, likewise-extend, likewise-refused, likewise-asked, step}
+use Rattle.met.proofs.Runs.{scene_of, Fine, Likewise, asks-is, asked, beyond, likewise-set, likewise-extend, likewise-refused, likewise-asked, step}
 
 -- ---- a request that passes the shared checks
 

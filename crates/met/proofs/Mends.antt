@@ -31,7 +31,7 @@ use Rattle.mending.specs.Resumed.{repair-resumed, repair-copied}
 use Rattle.demands.specs.Service.{flex, Machine}
 use Rattle.demands.specs.Demands.{last_track_of, per_track_of, data_sectors, survey_answer, sectors_in, place_in, chain_of, AsItWas, Begins, Closed, Start}
 use Rattle.demands.specs.Repairs.{repairs, mended, LiveFile, RightlyChained, Has, SharesNothing, TakenByNone, in_record, mends, broken_off, next_of, KeptUpTo, free_of, files_of, Rises, Repaired, FromRepair, reach_of}
-use Rattle.met.specs.Runs.{start-sane}
+use Rattle.met.proofs.Runs.{start-sane}
 
 told_is : (o : Told) → o ≡ told (says_of o) (left_of o)
 told_is (told a m) = refl
