@@ -1,15 +1,11 @@
 -- The frame of such stores, proved (specs/Frame says what it is).
-use Rattle.std.specs.Prelude.{◌≡◌, ◌≢◌, List, [], ◌∷◌, ℕ, ◌+◌, ◌*◌, ◌/◌, ◌≤◌, ◌<◌, length, get_or}
-use Rattle.std.proofs.Common.{sym, ap, subst, arith}
-use Rattle.rules.specs.Bytes.{over}
+use Rattle.std.specs.Prelude.{List, [], ◌∷◌, ℕ, ◌+◌, ◌*◌, ◌≤◌, ◌<◌, length, get_or}
+use Rattle.std.proofs.Common.{sym, subst}
 use Rattle.rules.specs.Stores.{Store, store, stored}
 use Rattle.rules.specs.Directory.{slots_of}
-use Rattle.chains.specs.Tally.{tally}
 use Rattle.laws.specs.Each.{Each}
-use Rattle.laws.specs.Bytes.{over_by}
-use Rattle.laws.specs.Small.{Small}
-use Rattle.laws.specs.Stores.{Piece, piece, begins, bytes_of, laid, Off, in_image, stored-laid, length-stored, stored-off}
-use Rattle.chains.specs.Directory.{Listing, Spot, spot, slots_apart}
+use Rattle.laws.specs.Stores.{Off, in_image, stored-laid, length-stored, stored-off}
+use Rattle.chains.specs.Directory.{Listing}
 use Rattle.chains.specs.Frame.{Address, Bytes, Frame, Lies, address-small, laid-small, off-aside, off-sector, off-shape, off-slot, off_head, piece_of}
 
 module _ (M S : ℕ) (s5 : 5 ≤ S) (ds : List ℕ) (d : Listing M S ds) (s : ℕ) (hs : s < length (slots_of ds)) where

@@ -21,9 +21,9 @@ use Rattle.chains.specs.Directory.{directory-is}
 use Rattle.demands.specs.Ledger.{File, no_file, Block, closed, Ledger, unused_slot, unused_slots}
 use Rattle.demands.specs.Diskette.{fcbs_from, files_at}
 use Rattle.demands.specs.Service.{flex, Machine}
-use Rattle.demands.specs.Demands.{last_track_of, per_track_of, sectors_in, in_link, AsItWas, Closed}
+use Rattle.demands.specs.Demands.{last_track_of, per_track_of, in_link, AsItWas, Closed}
 use Rattle.demands.specs.Repairs.{LiveFile, mended}
-use Rattle.demands.specs.Cuts.{left_with, mended_of, unused_in, Recovered}
+use Rattle.demands.specs.Cuts.{left_with, unused_in, Recovered}
 use Rattle.met.specs.Relation.{writes, Holds, Keeps, Agrees}
 use Rattle.met.specs.Frees.{k-in, k_off, k-data}
 use Rattle.met.specs.Unused.{unused-holds, unused-names, unused-dead}
@@ -33,7 +33,7 @@ use Rattle.met.specs.Forms.{formed-start}
 use Rattle.met.proofs.Runs.{Fine}
 use Rattle.met.proofs.Stays.{not_within}
 use Rattle.cutting.proofs.Harms.{rest-matters}
-use Rattle.cutting.specs.Kinds.{Matters, linked_stores, Longer}
+use Rattle.cutting.specs.Kinds.{Matters, linked_stores}
 use Rattle.cutting.specs.Harms.{sectors-are, in_rest}
 use Rattle.cutting.specs.Shorts.{intact-same}
 use Rattle.cutting.proofs.Intact.{no_longer, intact-there, intact-recovers}

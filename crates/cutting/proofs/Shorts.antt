@@ -1,29 +1,28 @@
 -- What a call leaves that is cut short: what comes of the file of the call.
 use Rattle.std.specs.Prelude.{◌≡◌, refl, ◌≢◌, ◌⊎◌, true, List, [], ◌∷◌, ◌++◌, ℕ, zero, suc, ◌+◌, ◌*◌, ◌/◌, ◌≤◌, ◌<◌, length, take}
-use Rattle.std.proofs.Common.{sym, ap, ◌∙◌, subst, inl, inr, arith, length-append, ext_get_or, take_all}
+use Rattle.std.proofs.Common.{sym, ap, ◌∙◌, subst, inl, inr, arith, length-append, ext_get_or}
 use Rattle.std.proofs.Math.Decide.{ℕ_discrete, dec_lt}
 use Rattle.std.proofs.lemmas.List.{take-append-le}
 use Rattle.rules.specs.Bytes.{byte_at, part, two, zeros}
 use Rattle.rules.specs.Stores.{Store, store, stored}
 use Rattle.rules.specs.Image.{adr}
 use Rattle.rules.specs.Directory.{last_of, member, chain_record}
-use Rattle.laws.specs.Bytes.{part-byte, part_same, length-zeros, length-six}
-use Rattle.laws.specs.Each.{Each, each_append, each_right, each-so, each_take}
-use Rattle.laws.specs.Small.{Small, small-six, small-zeros}
-use Rattle.laws.specs.Stores.{piece_of, Off, Inside, SmallStore, stores-each, stored-off, length-stored, small-stored}
+use Rattle.laws.specs.Bytes.{part_same, length-zeros, length-six}
+use Rattle.laws.specs.Each.{Each, each_right, each_take}
+use Rattle.laws.specs.Small.{Small, small-zeros}
+use Rattle.laws.specs.Stores.{Inside, SmallStore, stored-off, length-stored}
 use Rattle.laws.specs.Addresses.{Shape}
-use Rattle.laws.proofs.Effects.{call-lawful}
-use Rattle.chains.specs.Tally.{tally, tally-head, member-in, member-no, in-member}
+use Rattle.chains.specs.Tally.{tally, member-in, member-no, in-member}
 use Rattle.chains.specs.Chain.{tally-last}
-use Rattle.demands.specs.Ledger.{Call, setting, extending, asking, Ledger}
-use Rattle.demands.specs.Service.{flex, Machine, outcome, next, SendsByte}
+use Rattle.demands.specs.Ledger.{Call, Ledger}
+use Rattle.demands.specs.Service.{flex, Machine, next, SendsByte}
 use Rattle.demands.specs.Demands.{sectors_in}
 use Rattle.demands.specs.Repairs.{SameSector}
 use Rattle.demands.specs.Cuts.{in_order, stores_of, CutShort, stopped, unlisted, listed}
 use Rattle.met.specs.Relation.{Agrees}
 use Rattle.met.proofs.Runs.{Fine}
-use Rattle.cutting.specs.Kinds.{Matters, Intact, Harmless, ToDirectory, Staged, none, lone, early, grows, Longer, Comes, before, between, after}
-use Rattle.cutting.specs.Harms.{directory-matters, sectors-are, record-harmless, free-harmless}
+use Rattle.cutting.specs.Kinds.{Matters, Intact, Harmless, Staged, none, lone, early, grows, Longer, Comes, before, between, after}
+use Rattle.cutting.specs.Harms.{directory-matters, record-harmless}
 use Rattle.cutting.specs.Shorts.{Into, all-comes, all_new, besides-kept, call-inside, cleared-free, harmless-intact, intact-same, into-last, into-own, kept, listed-are, next-image, next_small, old-sector, one-sector, record-small, sector-byte}
 
 module _ (M S : ℕ) (z : Shape M S) (img tab : List ℕ) (a : Ledger) (r : Agrees M S img tab a) (small : Small img) where

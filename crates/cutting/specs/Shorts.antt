@@ -1,29 +1,26 @@
 -- From the kind of a call's stores to what is left where the call is cut short: of the stores in order, and of a copy that is written sector by sector.
-use Rattle.std.specs.Prelude.{◌≡◌, refl, ◌≢◌, ◌⊎◌, true, List, [], ◌∷◌, ◌++◌, ℕ, zero, suc, ◌+◌, ◌*◌, ◌/◌, ◌≤◌, ◌<◌, length, take}
-use Rattle.std.proofs.Common.{sym, ap, ◌∙◌, subst, inl, inr, arith, length-append, ext_get_or, take_all}
-use Rattle.std.proofs.Math.Decide.{ℕ_discrete, dec_lt}
-use Rattle.std.proofs.lemmas.List.{take-append-le}
-use Rattle.rules.specs.Bytes.{byte_at, part, two, zeros}
+use Rattle.std.specs.Prelude.{◌≡◌, refl, ◌≢◌, ◌⊎◌, List, [], ◌∷◌, ◌++◌, ℕ, ◌+◌, ◌*◌, ◌/◌, ◌≤◌, ◌<◌, length, take}
+use Rattle.std.proofs.Common.{sym, ap, ◌∙◌, subst, inl, inr, arith, ext_get_or, take_all}
+use Rattle.std.proofs.Math.Decide.{ℕ_discrete}
+use Rattle.rules.specs.Bytes.{byte_at}
 use Rattle.rules.specs.Stores.{Store, store, stored}
-use Rattle.rules.specs.Image.{adr}
-use Rattle.rules.specs.Directory.{last_of, member, chain_record}
-use Rattle.laws.specs.Bytes.{part-byte, part_same, length-zeros, length-six}
-use Rattle.laws.specs.Each.{Each, each_append, each_right, each-so, each_take}
-use Rattle.laws.specs.Small.{Small, small-six, small-zeros}
+use Rattle.rules.specs.Directory.{chain_record}
+use Rattle.laws.specs.Bytes.{part-byte}
+use Rattle.laws.specs.Each.{Each, each_append, each-so}
+use Rattle.laws.specs.Small.{Small, small-six}
 use Rattle.laws.specs.Stores.{piece_of, Off, Inside, SmallStore, stores-each, stored-off, length-stored, small-stored}
 use Rattle.laws.specs.Addresses.{Shape}
 use Rattle.laws.proofs.Effects.{call-lawful}
-use Rattle.chains.specs.Tally.{tally, tally-head, member-in, member-no, in-member}
-use Rattle.chains.specs.Chain.{tally-last}
+use Rattle.chains.specs.Tally.{tally, tally-head}
 use Rattle.demands.specs.Ledger.{Call, setting, extending, asking, Ledger}
 use Rattle.demands.specs.Service.{flex, Machine, outcome, next, SendsByte}
 use Rattle.demands.specs.Demands.{sectors_in}
 use Rattle.demands.specs.Repairs.{SameSector}
-use Rattle.demands.specs.Cuts.{in_order, stores_of, CutShort, stopped, unlisted, listed}
+use Rattle.demands.specs.Cuts.{in_order, stores_of}
 use Rattle.met.specs.Relation.{Agrees}
 use Rattle.met.proofs.Runs.{Fine}
-use Rattle.cutting.specs.Kinds.{Matters, Intact, Harmless, ToDirectory, Staged, none, lone, early, grows, Longer, Comes, before, between, after}
-use Rattle.cutting.specs.Harms.{directory-matters, sectors-are, record-harmless, free-harmless}
+use Rattle.cutting.specs.Kinds.{Matters, Intact, Harmless, ToDirectory, Staged}
+use Rattle.cutting.specs.Harms.{sectors-are, free-harmless}
 
 -- ---- images
 

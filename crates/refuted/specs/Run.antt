@@ -1,6 +1,6 @@
 -- The demands are not empty: a run of 30 calls, 16 presets and a default extension on the start with three files, its answers, and what each
 -- clause of `Sound` finds there.
-use Rattle.std.specs.Prelude.{◌≡◌, refl, Bool, true, false, List, [], ◌∷◌, ◌++◌, ℕ, ◌+◌, ◌*◌, ◌/◌, ◌<◌, length, get_or, replicate, ltb}
+use Rattle.std.specs.Prelude.{◌≡◌, refl, Bool, true, false, List, [], ◌∷◌, ◌++◌, ℕ, ◌*◌, ◌/◌, ◌<◌, length, get_or, replicate, ltb}
 use Rattle.std.proofs.Common.{ap, ◌∙◌, arith}
 use Rattle.rules.specs.Bytes.{pick, byte_at, part, within}
 use Rattle.rules.specs.Directory.{live, member, last_sector}

@@ -1,10 +1,10 @@
 -- The demands leave no freedom. Two services that meet demand 1 are one service, on any bytes. Two that meet demand 3 answer alike, give the same
 -- bytes, and leave the same image and table, for every start and every list of plain calls; and what is plain for the one is plain for the other.
-use Rattle.std.specs.Prelude.{◌≡◌, false, ℕ, ◌+◌, eqb}
+use Rattle.std.specs.Prelude.{◌≡◌, false, ℕ, eqb}
 use Rattle.std.proofs.Math.Path.{refl, sym, ap₂}
 use Rattle.std.proofs.Common.{ap, ◌∙◌, subst}
 use mathlib.Core.List.{List, [], ◌∷◌, ◌++◌, append_assoc, append-nil}
-use Rattle.rules.specs.Bytes.{pick, one}
+use Rattle.rules.specs.Bytes.{pick}
 use Rattle.demands.specs.Ledger.{Call, setting, extending, asking, writes_raw, Ledger, asks, image_of, table_of, fate, reply}
 use Rattle.demands.specs.Service.{Service, Machine, Entry, next, entry, run, log}
 use Rattle.demands.specs.History.{then, history, scenes, Told, raw, Plain}

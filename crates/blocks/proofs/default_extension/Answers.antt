@@ -1,6 +1,5 @@
 use Rattle.rules.specs.Block.{extension}
 use Rattle.blocks.proofs.Laws.{table-wrong, number-wrong, table-right}
-use borrow.Author.Rules.{rules}
 use Rattle.blocks.proofs.default_extension.Goals as goal
 
 pub returns-then-table-ne-TABLE_LENGTH : goal.returns-then-table-ne-TABLE_LENGTH

@@ -1,6 +1,5 @@
 use borrow.Author.Tests.{not-true, not-false}
 use Rattle.blocks.proofs.Laws.{extension-busy, extension-there, extension-no-code, extension-set}
-use borrow.Author.Rules.{rules}
 use Rattle.blocks.proofs.extension_in.Goals as goal
 
 pub returns-then-not-free : goal.returns-then-not-free

@@ -1,6 +1,5 @@
 use mathlib.Core.Path.{refl}
 use Rattle.rules.specs.Block.{extensions}
-use borrow.Author.Rules.{rules}
 use Rattle.blocks.proofs.extension_of.Goals as goal
 
 pub returns : goal.returns

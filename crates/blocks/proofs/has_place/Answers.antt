@@ -1,5 +1,4 @@
 use Rattle.blocks.proofs.Laws.{place-track, place-sector, place-last}
-use borrow.Author.Rules.{rules}
 use Rattle.blocks.proofs.has_place.Goals as goal
 
 pub returns-then-track-a : goal.returns-then-track-a

@@ -1,8 +1,6 @@
-use mathlib.Core.Path.{◌≡◌, refl}
-use Rattle.rules.specs.Directory.{place_of}
-use Rattle.rules.specs.Block.{used_below, in_use}
+use mathlib.Core.Path.{refl}
+use Rattle.rules.specs.Block.{in_use}
 use Rattle.blocks.proofs.Laws.{used-here, used-on, used-none}
-use borrow.Author.Rules.{rules}
 use Rattle.blocks.proofs.in_use.Goals as goal
 
 pub loop-left-init : goal.loop-left-init

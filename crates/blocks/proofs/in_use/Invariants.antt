@@ -1,7 +1,6 @@
-use mathlib.Core.Path.{◌≡◌, refl}
+use mathlib.Core.Path.{◌≡◌}
 use Rattle.rules.specs.Directory.{place_of}
 use Rattle.rules.specs.Block.{used_below, in_use}
-use Rattle.blocks.proofs.Laws.{used-here, used-on, used-none}
 use Rattle.blocks.proofs.in_use.Given as goal
 
 abbrev pub invariant-loop-left : goal.invariant-loop-left

@@ -1,5 +1,4 @@
 use Rattle.blocks.proofs.Laws.{counts-writer, counts-reader, counts-other}
-use borrow.Author.Rules.{rules}
 use Rattle.blocks.proofs.is_counted.Goals as goal
 
 pub returns-then-activity-eq2 : goal.returns-then-activity-eq2

@@ -1,5 +1,4 @@
 use Rattle.blocks.proofs.Laws.{idle-yes, idle-no}
-use borrow.Author.Rules.{rules}
 use Rattle.blocks.proofs.is_idle.Goals as goal
 
 pub returns-in-0 : goal.returns-in-0

@@ -1,5 +1,4 @@
 use Rattle.blocks.proofs.Laws.{offsets}
-use borrow.Author.Rules.{rules}
 use Rattle.blocks.proofs.is_presettable.Goals as goal
 
 pub returns-in-3-to-27 : goal.returns-in-3-to-27

@@ -1,6 +1,5 @@
 use borrow.Author.Tests.{not-true, not-false}
 use Rattle.blocks.proofs.Laws.{uses-not, uses-same}
-use borrow.Author.Rules.{rules}
 use Rattle.blocks.proofs.is_user.Goals as goal
 
 pub returns-then-not-counted : goal.returns-then-not-counted

@@ -1,6 +1,5 @@
 use Rattle.rules.specs.Block.{preset}
 use Rattle.blocks.proofs.Laws.{table-wrong, number-wrong, table-right}
-use borrow.Author.Rules.{rules}
 use Rattle.blocks.proofs.preset.Goals as goal
 
 pub returns-then-table-ne-TABLE_LENGTH : goal.returns-then-table-ne-TABLE_LENGTH

@@ -1,6 +1,5 @@
 use borrow.Author.Tests.{not-true, not-false}
 use Rattle.blocks.proofs.Laws.{preset-function, preset-never, preset-busy, preset-byte, preset-fits}
-use borrow.Author.Rules.{rules}
 use Rattle.blocks.proofs.preset_in.Goals as goal
 
 pub returns-then-offset-eq0 : goal.returns-then-offset-eq0

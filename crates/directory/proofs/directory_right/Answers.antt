@@ -1,7 +1,4 @@
-use mathlib.Core.Path.{◌≡◌}
-use Rattle.rules.specs.Directory.{ends, directory_right}
 use Rattle.directory.proofs.Laws.{right-from, ends-end, ends-astray, ends-to, ends-out}
-use borrow.Author.Rules.{rules}
 use Rattle.directory.proofs.directory_right.Goals as goal
 
 pub loop-left-init : goal.loop-left-init

@@ -1,6 +1,5 @@
 use mathlib.Core.Path.{◌≡◌}
 use Rattle.rules.specs.Directory.{ends, directory_right}
-use Rattle.directory.proofs.Laws.{right-from, ends-end, ends-astray, ends-to, ends-out}
 use Rattle.directory.proofs.directory_right.Given as goal
 
 abbrev pub invariant-loop-left : goal.invariant-loop-left

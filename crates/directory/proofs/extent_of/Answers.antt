@@ -1,9 +1,5 @@
-use mathlib.Core.Path.{◌≡◌}
-use Prim.Native.Nat.{◌+◌, ◌≤◌}
 use native.Mathlib.Omega.{arith}
-use Rattle.directory.specs.Extents.{extent_of}
-use Rattle.directory.proofs.Laws.{extent_from, extent-from, extent-end, extent-astray, extent-to, extent-out}
-use borrow.Author.Rules.{rules}
+use Rattle.directory.proofs.Laws.{extent-from, extent-end, extent-astray, extent-to, extent-out}
 use Rattle.directory.proofs.extent_of.Goals as goal
 
 pub loop-left-init : goal.loop-left-init

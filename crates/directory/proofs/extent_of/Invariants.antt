@@ -1,8 +1,7 @@
 use mathlib.Core.Path.{◌≡◌}
 use Prim.Native.Nat.{◌+◌, ◌≤◌}
-use native.Mathlib.Omega.{arith}
 use Rattle.directory.specs.Extents.{extent_of}
-use Rattle.directory.proofs.Laws.{extent_from, extent-from, extent-end, extent-astray, extent-to, extent-out}
+use Rattle.directory.proofs.Laws.{extent_from}
 use Rattle.directory.proofs.extent_of.Given as goal
 
 abbrev pub invariant-loop-left : goal.invariant-loop-left

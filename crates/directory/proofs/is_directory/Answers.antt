@@ -1,6 +1,5 @@
 use native.Mathlib.Omega.{arith}
 use Rattle.directory.proofs.Laws.{off-track, before-fifth, up-to-last}
-use borrow.Author.Rules.{rules}
 use Rattle.directory.proofs.is_directory.Goals as goal
 
 pub returns-then-a-ne0 : goal.returns-then-a-ne0

@@ -1,7 +1,6 @@
 use Rattle.laws.specs.Tests.{tests}
 use Rattle.rules.specs.Bytes.{within}
 use Rattle.laws.specs.Slots.{is_displacement}
-use borrow.Author.Rules.{rules}
 use Rattle.directory.proofs.is_displacement.Goals as goal
 
 pub returns-then-d-lt16 : goal.returns-then-d-lt16

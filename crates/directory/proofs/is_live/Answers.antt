@@ -1,5 +1,4 @@
 use Rattle.directory.proofs.Laws.{live-never, live-deleted, live-used}
-use borrow.Author.Rules.{rules}
 use Rattle.directory.proofs.is_live.Goals as goal
 
 pub returns-then-b-eq0 : goal.returns-then-b-eq0

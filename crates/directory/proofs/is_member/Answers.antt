@@ -1,7 +1,4 @@
-use mathlib.Core.Path.{◌≡◌}
-use Rattle.rules.specs.Directory.{sectors_from, directory, member}
 use Rattle.directory.proofs.Laws.{member-from, member-here, member-end, member-astray, member-to, member-out}
-use borrow.Author.Rules.{rules}
 use Rattle.directory.proofs.is_member.Goals as goal
 
 pub loop-left-init : goal.loop-left-init

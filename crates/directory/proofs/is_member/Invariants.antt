@@ -1,6 +1,5 @@
 use mathlib.Core.Path.{◌≡◌}
 use Rattle.rules.specs.Directory.{sectors_from, directory, member}
-use Rattle.directory.proofs.Laws.{member-from, member-here, member-end, member-astray, member-to, member-out}
 use Rattle.directory.proofs.is_member.Given as goal
 
 abbrev pub invariant-loop-left : goal.invariant-loop-left

@@ -1,7 +1,6 @@
 use borrow.Author.Tests.{not-true, not-false}
 use Rattle.laws.specs.Slots.{named-dead, named_live}
 use Rattle.directory.proofs.Laws.{named_other}
-use borrow.Author.Rules.{rules}
 use Rattle.directory.proofs.is_named.Goals as goal
 
 pub returns-then-get2-end : goal.returns-then-get2-end

@@ -1,5 +1,4 @@
 use Rattle.directory.proofs.Laws.{looked-free, looked-name}
-use borrow.Author.Rules.{rules}
 use Rattle.directory.proofs.is_sought.Goals as goal
 
 pub returns-then-free : goal.returns-then-free

@@ -1,5 +1,4 @@
 use Rattle.directory.proofs.Laws.{letters-word}
-use borrow.Author.Rules.{rules}
 use Rattle.directory.proofs.letters.Goals as goal
 
 pub returns : goal.returns

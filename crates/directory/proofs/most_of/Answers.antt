@@ -1,6 +1,5 @@
 use native.Mathlib.Omega.{arith}
 use Rattle.directory.proofs.Laws.{product}
-use borrow.Author.Rules.{rules}
 use Rattle.directory.proofs.most_of.Goals as goal
 
 pub overflow_mul-behind : goal.overflow_mul-behind

@@ -1,5 +1,4 @@
 use Rattle.directory.proofs.Laws.{next-by}
-use borrow.Author.Rules.{rules}
 use Rattle.directory.proofs.next_of.Goals as goal
 
 pub returns : goal.returns

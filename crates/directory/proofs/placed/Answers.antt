@@ -1,6 +1,5 @@
 use borrow.Author.Tests.{not-true, not-false}
 use Rattle.directory.proofs.Laws.{place-wrong, place-foreign, place-strange, place-between, place-there}
-use borrow.Author.Rules.{rules}
 use Rattle.directory.proofs.placed.Goals as goal
 
 pub returns-then-not-right : goal.returns-then-not-right

@@ -1,6 +1,5 @@
 use Rattle.rules.specs.Bytes.{one, two}
 use Rattle.rules.specs.Directory.{place_of}
-use borrow.Author.Rules.{rules}
 use Rattle.directory.proofs.put_place.Goals as goal
 
 pub returns : goal.returns

@@ -1,10 +1,6 @@
-use mathlib.Core.Path.{◌≡◌}
-use Prim.Native.Nat.{◌+◌, ◌≤◌}
 use native.Mathlib.Omega.{arith}
-use Rattle.rules.specs.Bytes.{part, same}
 use Rattle.laws.specs.Bytes.{same_end}
 use Rattle.directory.proofs.Laws.{run-start, run-no, run_on}
-use borrow.Author.Rules.{rules}
 use Rattle.directory.proofs.same_name.Goals as goal
 
 pub loop-left-init : goal.loop-left-init

@@ -1,9 +1,6 @@
 use mathlib.Core.Path.{◌≡◌}
 use Prim.Native.Nat.{◌+◌, ◌≤◌}
-use native.Mathlib.Omega.{arith}
 use Rattle.rules.specs.Bytes.{part, same}
-use Rattle.laws.specs.Bytes.{same_end}
-use Rattle.directory.proofs.Laws.{run-start, run-no, run_on}
 use Rattle.directory.proofs.same_name.Given as goal
 
 abbrev pub invariant-loop-left : goal.invariant-loop-left

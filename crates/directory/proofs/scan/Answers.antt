@@ -1,10 +1,4 @@
-use mathlib.Core.Path.{◌≡◌}
-use Rattle.rules.specs.Bytes.{part}
-use Rattle.rules.specs.Directory.{slots, scan}
-use Rattle.laws.specs.Visits.{visits}
-use Rattle.directory.specs.Sought.{looked}
 use Rattle.directory.proofs.Laws.{scan-first, scan-here, scan-next, scan-last, scan-broken, scan-none}
-use borrow.Author.Rules.{rules}
 use Rattle.directory.proofs.scan.Goals as goal
 
 pub loop-left-init : goal.loop-left-init

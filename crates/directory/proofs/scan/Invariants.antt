@@ -3,7 +3,6 @@ use Rattle.rules.specs.Bytes.{part}
 use Rattle.rules.specs.Directory.{slots, scan}
 use Rattle.laws.specs.Visits.{visits}
 use Rattle.directory.specs.Sought.{looked}
-use Rattle.directory.proofs.Laws.{scan-first, scan-here, scan-next, scan-last, scan-broken, scan-none}
 use Rattle.directory.proofs.scan.Given as goal
 
 abbrev pub invariant-loop-left : goal.invariant-loop-left

@@ -1,6 +1,5 @@
 use borrow.Author.Tests.{not-true, not-false}
 use Rattle.directory.proofs.Laws.{sought-wrong, sought-right}
-use borrow.Author.Rules.{rules}
 use Rattle.directory.proofs.seek.Goals as goal
 
 pub returns-then-not-right : goal.returns-then-not-right

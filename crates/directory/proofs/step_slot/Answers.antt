@@ -1,5 +1,4 @@
 use Rattle.directory.proofs.Laws.{next-by, behind-near, behind-end, behind-astray, behind-to}
-use borrow.Author.Rules.{rules}
 use Rattle.directory.proofs.step_slot.Goals as goal
 
 pub returns-then-slot-lt232 : goal.returns-then-slot-lt232

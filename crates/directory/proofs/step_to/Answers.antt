@@ -2,7 +2,6 @@ use Rattle.laws.specs.Tests.{tests}
 use borrow.Author.Tests.{not-true, not-false}
 use Rattle.rules.specs.Directory.{step_to}
 use Rattle.directory.proofs.Laws.{step-astray, step-on}
-use borrow.Author.Rules.{rules}
 use Rattle.directory.proofs.step_to.Goals as goal
 
 pub returns-then-a-eq0 : goal.returns-then-a-eq0

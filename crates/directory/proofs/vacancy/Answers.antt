@@ -1,5 +1,4 @@
 use Rattle.directory.proofs.Laws.{sought-vacancy}
-use borrow.Author.Rules.{rules}
 use Rattle.directory.proofs.vacancy.Goals as goal
 
 pub returns : goal.returns

@@ -2,7 +2,6 @@ use mathlib.Core.Path.{refl}
 use native.Mathlib.Omega.{arith}
 use Rattle.rules.specs.Image.{address_of}
 use Rattle.disk.proofs.Laws.{address-none, digits-few}
-use borrow.Author.Rules.{rules}
 use Rattle.disk.proofs.address_of.Goals as goal
 
 pub returns-then-per-eq0 : goal.returns-then-per-eq0

@@ -1,5 +1,4 @@
 use Rattle.disk.specs.Loaded.{free_of}
-use borrow.Author.Rules.{rules}
 use Rattle.disk.proofs.free_of.Goals as goal
 
 pub returns : goal.returns

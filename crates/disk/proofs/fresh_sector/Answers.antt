@@ -1,6 +1,5 @@
 use Rattle.rules.specs.Bytes.{zeros}
 use Rattle.rules.specs.Transfer.{fresh}
-use borrow.Author.Rules.{rules}
 use Rattle.disk.proofs.fresh_sector.Goals as goal
 
 pub returns : goal.returns

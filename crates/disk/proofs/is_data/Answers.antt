@@ -1,7 +1,6 @@
 use Rattle.laws.specs.Tests.{tests}
 use Rattle.rules.specs.Bytes.{within}
 use Rattle.rules.specs.Image.{is_data}
-use borrow.Author.Rules.{rules}
 use Rattle.disk.proofs.is_data.Goals as goal
 
 pub returns-then-a-lt1 : goal.returns-then-a-lt1

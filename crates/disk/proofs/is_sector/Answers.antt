@@ -1,7 +1,6 @@
 use Rattle.laws.specs.Tests.{tests}
 use Rattle.rules.specs.Bytes.{within}
 use Rattle.rules.specs.Image.{is_sector}
-use borrow.Author.Rules.{rules}
 use Rattle.disk.proofs.is_sector.Goals as goal
 
 pub returns-then-a-last : goal.returns-then-a-last

@@ -1,5 +1,4 @@
 use Rattle.disk.proofs.Laws.{link-none, link-some}
-use borrow.Author.Rules.{rules}
 use Rattle.disk.proofs.link.Goals as goal
 
 pub returns-then-none : goal.returns-then-none

@@ -1,5 +1,4 @@
 use Rattle.laws.specs.Lent.{over-part}
-use borrow.Author.Rules.{rules}
 use Rattle.disk.proofs.load_sector.Goals as goal
 
 pub returns : goal.returns

@@ -2,7 +2,6 @@ use mathlib.Core.Path.{refl}
 use Prim.Native.Nat.{◌+◌}
 use native.Mathlib.Omega.{arith}
 use Rattle.disk.proofs.Laws.{product}
-use borrow.Author.Rules.{rules}
 use Rattle.disk.proofs.sectors.Goals as goal
 
 pub overflow_mul-result : goal.overflow_mul-result

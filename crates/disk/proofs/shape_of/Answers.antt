@@ -1,5 +1,4 @@
 use Rattle.disk.proofs.Laws.{shape-right, shape-wrong}
-use borrow.Author.Rules.{rules}
 use Rattle.disk.proofs.shape_of.Goals as goal
 
 pub returns-then-right : goal.returns-then-right

@@ -1,5 +1,4 @@
 use Rattle.disk.proofs.Laws.{data-stored}
-use borrow.Author.Rules.{rules}
 use Rattle.disk.proofs.store_data.Goals as goal
 
 pub returns : goal.returns

@@ -1,5 +1,4 @@
 use Rattle.disk.proofs.Laws.{sector-stored}
-use borrow.Author.Rules.{rules}
 use Rattle.disk.proofs.store_sector.Goals as goal
 
 pub returns : goal.returns

@@ -1,5 +1,4 @@
 use Rattle.disk.proofs.Laws.{whole-stored}
-use borrow.Author.Rules.{rules}
 use Rattle.disk.proofs.store_whole.Goals as goal
 
 pub returns : goal.returns

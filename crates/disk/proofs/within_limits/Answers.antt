@@ -1,6 +1,5 @@
 use native.Mathlib.Omega.{arith}
 use Rattle.disk.proofs.Laws.{no-track, many-tracks, few-sectors, by-sectors}
-use borrow.Author.Rules.{rules}
 use Rattle.disk.proofs.within_limits.Goals as goal
 
 pub returns-then-last-lt1 : goal.returns-then-last-lt1

@@ -1,5 +1,4 @@
 use Rattle.entries.specs.Entries.{entry_of}
-use borrow.Author.Rules.{rules}
 use Rattle.entries.proofs.entry_at.Goals as goal
 
 pub returns : goal.returns

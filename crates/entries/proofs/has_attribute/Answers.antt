@@ -1,5 +1,4 @@
 use Rattle.entries.proofs.Laws.{attribute-read}
-use borrow.Author.Rules.{rules}
 use Rattle.entries.proofs.has_attribute.Goals as goal
 
 pub returns : goal.returns

@@ -1,5 +1,4 @@
 use Rattle.entries.proofs.Laws.{eleven-read}
-use borrow.Author.Rules.{rules}
 use Rattle.entries.proofs.name_at.Goals as goal
 
 pub returns : goal.returns

@@ -1,5 +1,4 @@
 use Rattle.entries.specs.Entries.{new_of}
-use borrow.Author.Rules.{rules}
 use Rattle.entries.proofs.new_entry.Goals as goal
 
 pub returns : goal.returns

@@ -1,9 +1,5 @@
-use mathlib.Core.Path.{◌≡◌}
-use Prim.Native.Nat.{◌-◌, ◌≤◌}
 use native.Mathlib.Omega.{arith}
-use lib.ListN.{length}
-use Rattle.rules.specs.Bytes.{over, zeros}
-use Rattle.rules.specs.Format.{blank_to}
+use Rattle.rules.specs.Bytes.{zeros}
 use Rattle.format.proofs.Laws.{fill_none, fill_more, fill-all}
 use borrow.Author.Rules.{rules}
 use Rattle.format.proofs.fill.Goals as goal

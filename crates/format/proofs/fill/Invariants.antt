@@ -1,10 +1,8 @@
 use mathlib.Core.Path.{◌≡◌}
 use Prim.Native.Nat.{◌-◌, ◌≤◌}
-use native.Mathlib.Omega.{arith}
 use lib.ListN.{length}
-use Rattle.rules.specs.Bytes.{over, zeros}
+use Rattle.rules.specs.Bytes.{over}
 use Rattle.rules.specs.Format.{blank_to}
-use Rattle.format.proofs.Laws.{fill_none, fill_more, fill-all}
 use Rattle.format.proofs.fill.Given as goal
 
 abbrev pub invariant-loop-k : goal.invariant-loop-k

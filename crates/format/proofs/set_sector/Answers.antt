@@ -1,5 +1,4 @@
 use Rattle.format.proofs.Laws.{set-information-is, set-nothing, set-link-is}
-use borrow.Author.Rules.{rules}
 use Rattle.format.proofs.set_sector.Goals as goal
 
 pub returns-then-k-eq-INFO_SECTOR : goal.returns-then-k-eq-INFO_SECTOR

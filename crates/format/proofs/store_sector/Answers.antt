@@ -1,5 +1,4 @@
 use Rattle.format.proofs.Laws.{sector-stored}
-use borrow.Author.Rules.{rules}
 use Rattle.format.proofs.store_sector.Goals as goal
 
 pub returns : goal.returns

@@ -1,6 +1,5 @@
 use Rattle.message.proofs.Laws.{text-short, text-line}
 use native.Mathlib.Omega.{arith}
-use borrow.Author.Rules.{rules}
 use Rattle.message.proofs.error_text.Goals as goal
 
 pub returns-then-text-lt15 : goal.returns-then-text-lt15

@@ -1,10 +1,6 @@
-use mathlib.Core.Path.{◌≡◌, refl}
-use Prim.Native.Nat.{◌+◌, ◌≤◌}
+use mathlib.Core.Path.{refl}
 use native.Mathlib.Omega.{arith}
-use Rattle.rules.specs.Bytes.{part}
-use Rattle.rules.specs.Names.{all_zero}
 use Rattle.names.proofs.Laws.{zero-no, zero-on, zero-end}
-use borrow.Author.Rules.{rules}
 use Rattle.names.proofs.all_zero.Goals as goal
 
 pub loop-left-init : goal.loop-left-init

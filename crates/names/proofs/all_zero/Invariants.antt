@@ -1,9 +1,7 @@
-use mathlib.Core.Path.{◌≡◌, refl}
+use mathlib.Core.Path.{◌≡◌}
 use Prim.Native.Nat.{◌+◌, ◌≤◌}
-use native.Mathlib.Omega.{arith}
 use Rattle.rules.specs.Bytes.{part}
 use Rattle.rules.specs.Names.{all_zero}
-use Rattle.names.proofs.Laws.{zero-no, zero-on, zero-end}
 use Rattle.names.proofs.all_zero.Given as goal
 
 abbrev pub invariant-loop-left : goal.invariant-loop-left

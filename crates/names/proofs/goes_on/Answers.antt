@@ -1,11 +1,7 @@
-use mathlib.Core.Path.{◌≡◌, refl}
-use Prim.Native.Nat.{◌+◌, ◌≤◌}
+use mathlib.Core.Path.{refl}
 use native.Mathlib.Omega.{arith}
-use Rattle.rules.specs.Bytes.{part}
 use borrow.Author.Tests.{not-true, not-false}
-use Rattle.rules.specs.Names.{goes_on}
 use Rattle.names.proofs.Laws.{goes-no, goes_on_lem, goes_end}
-use borrow.Author.Rules.{rules}
 use Rattle.names.proofs.goes_on.Goals as goal
 
 pub loop-left-init : goal.loop-left-init

@@ -1,10 +1,7 @@
-use mathlib.Core.Path.{◌≡◌, refl}
+use mathlib.Core.Path.{◌≡◌}
 use Prim.Native.Nat.{◌+◌, ◌≤◌}
-use native.Mathlib.Omega.{arith}
 use Rattle.rules.specs.Bytes.{part}
-use borrow.Author.Tests.{not-true, not-false}
 use Rattle.rules.specs.Names.{goes_on}
-use Rattle.names.proofs.Laws.{goes-no, goes_on_lem, goes_end}
 use Rattle.names.proofs.goes_on.Given as goal
 
 abbrev pub invariant-loop-left : goal.invariant-loop-left

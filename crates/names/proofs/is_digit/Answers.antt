@@ -1,7 +1,6 @@
 use Rattle.laws.specs.Tests.{tests}
 use Rattle.rules.specs.Bytes.{within}
 use Rattle.rules.specs.Names.{is_digit}
-use borrow.Author.Rules.{rules}
 use Rattle.names.proofs.is_digit.Goals as goal
 
 pub returns-in-48-to-57 : goal.returns-in-48-to-57

@@ -1,6 +1,5 @@
 use native.Mathlib.Omega.{arith}
 use Rattle.names.proofs.Laws.{letter-below, letter-upper, letter-between, letter-lower, letter-above}
-use borrow.Author.Rules.{rules}
 use Rattle.names.proofs.is_letter.Goals as goal
 
 pub returns-in-65-to-90 : goal.returns-in-65-to-90

@@ -1,5 +1,4 @@
 use Rattle.names.proofs.Laws.{byte-letter, byte-digit, byte-sign, byte-other}
-use borrow.Author.Rules.{rules}
 use Rattle.names.proofs.is_name_byte.Goals as goal
 
 pub returns-then-letter : goal.returns-then-letter

@@ -1,6 +1,5 @@
 use borrow.Author.Tests.{not-true, not-false}
 use Rattle.names.proofs.Laws.{word_none, word-no, word_on}
-use borrow.Author.Rules.{rules}
 use Rattle.names.proofs.is_word.Goals as goal
 
 pub returns-then-n-eq0 : goal.returns-then-n-eq0

@@ -1,6 +1,5 @@
 use borrow.Author.Tests.{not-true, not-false}
 use Rattle.names.proofs.Laws.{legal-no, legal-on}
-use borrow.Author.Rules.{rules}
 use Rattle.names.proofs.legal_name.Goals as goal
 
 pub returns-then-not-name : goal.returns-then-not-name
