@@ -107,64 +107,53 @@ needed() {
             print name
         }
         { sub(/#.*/, "") }
-        /:/ { name = $0; sub(/:.*/, "", name); gsub(/[ \t]/, "", name); sub(/[^:]*:/, ""); uses[name] = $0 }
+        /:/ { name = $1; sub(/:.*/, "", name); sub(/[^:]*:/, ""); uses[name] = $0 }
         END { visit(top) }' "$root/crates.txt"
 }
 
-# progress COUNT: of what 'rt check' says, a line for each crate that it proved, and all that it said of one that it did not
+# progress CRATE..: of what 'rt lib' says, a line for each of these crates when it is proved, and all that it says of one that is not
 progress() {
-    local line name took number=0 said=()
+    local line crate name='?' began=0 number=0 said=()
+    local -A place=()
+    for crate in "$@"; do place[$crate]=$((++number)); done
     while IFS= read -r line; do
+        said+=("$line")
         case $line in
-        'rt: ok, '*) said=() ;;
-        'rt: '*' proved ('*)
-            number=$((number + 1)) name=${line#rt: } took=${line##*\(}
-            [[ $took == unchanged* ]] || echo "[$number/$1] ${name%% *} ${took%)}" >&2
+        'rt: '*'waiting for '*) echo "$line" >&2 ;;
+        'rt: chose --jobs '*' for '*) name=${line##* } began=$SECONDS ;;
+        'logic=proved '*)
+            echo "[${place[$name]:-?}/$#] $name $((SECONDS - began)) s" >&2
             said=()
             ;;
-        'rt: '*' NOT PROVED'*)
-            number=$((number + 1))
-            printf '%s\n' "${said[@]}" "$line" >&2
-            said=()
-            ;;
-        *) said+=("$line") ;;
         esac
     done
     [ ${#said[@]} -eq 0 ] || printf '%s\n' "${said[@]}" >&2
 }
 
-# How many crates to prove at a time. rt goes layer by layer and waits for the slowest crate of each, so that all cores are
-# busy only with more crates than cores; each may need a gigabyte.
-jobs_here() {
-    local jobs room
-    jobs=$((2 * $(nproc)))
-    room=$(awk '/^MemAvailable:/ { print int($2 / 1048576) }' /proc/meminfo)
-    [ "$jobs" -le "${room:-1}" ] || jobs=$room
-    [ "${jobs:-0}" -ge 1 ] || jobs=1
-    echo "$jobs"
+# is_old CRATE..: is the archive missing, or older than a source of these crates? What rt itself writes, in out/, is none.
+is_old() {
+    [ -f "$archive" ] && [ ! "$root/crates.txt" -nt "$archive" ] || return 0
+    [ -n "$(cd "$root/crates" && find "$@" -mindepth 1 -regex '[^/]*/\(out\|must-fail\)' -prune -o -newer "$archive" -print -quit)" ]
 }
 
-# The archive is made anew when a source is newer. Only 'rt check' proves crates beside each other.
+# The archive is made anew when a source is newer than the start of the run that made it; rt proves what has changed since. The crate that
+# exports the entries is flex_c; to C and Rust its archive is libflex.a.
 make_archive() {
-    if [ -f "$archive" ] && [ -z "$(find "$root/crates" "$root/crates.txt" -newer "$archive" -print -quit)" ]; then
-        return
-    fi
+    local crates log=$root/target/log/archive made=$root/crates/flex_c/out/libflex_c.a
+    mapfile -t crates < <(needed flex_c)
+    is_old "${crates[@]}" || return 0
     command -v rt >/dev/null || die "the Rattle kit's command rt is not on the PATH, and it makes target/staticlib/libflex.a"
-    local crates count log=$root/target/log/archive jobs=${RT_JOBS:-$(jobs_here)} began
-    mapfile -t crates < <(needed flex)
-    count=${#crates[@]}
-    mkdir -p "$root/target/log"
-    say "proving what is not proved yet of the service's $count crates, $jobs at a time (all of them: some 5 minutes on two cores);"
+    mkdir -p "$root/target/log" "${archive%/*}"
+    : >"$log.began"
+    say "proving what is not proved yet of the service's ${#crates[@]} crates (all of them: some 10 minutes);"
     say "all that rt says goes to target/log/archive"
-    if ! (cd "$root" && RT_JOBS=$jobs rt check "${crates[@]:0:count-1}" 2>&1) | tee "$log" | progress "$count"; then
+    rm -f "$made"
+    if ! (cd "$root/crates/flex_c" && rt lib 2>&1) | tee "$log" | progress "${crates[@]}"; then
         die "not proved; target/log/archive has all that rt said"
     fi
-    began=$SECONDS
-    if ! (cd "$root" && rt staticlib flex) >"$log.flex" 2>&1; then
-        cat "$log.flex" >&2
-        die "rt staticlib flex failed"
-    fi
-    echo "[$count/$count] flex $((SECONDS - began)) s" >&2
+    cp "$made" "$archive.new"
+    touch -r "$log.began" "$archive.new"
+    mv "$archive.new" "$archive"
 }
 
 # cargo_do COMMAND ARGUMENT..: cargo on the workspace, with all output below target/ and no network

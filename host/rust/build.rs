@@ -1,4 +1,4 @@
-//! Says where libflex.a is: the folder that FLEX_LIB_DIR names, or else target/staticlib, where `rt staticlib flex` puts it.
+//! Says where libflex.a is: the folder that FLEX_LIB_DIR names, or else target/staticlib, where `host/build` puts it.
 
 use std::env;
 use std::path::PathBuf;
