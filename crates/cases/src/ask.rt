@@ -2,9 +2,10 @@
 use crate::line::{behind, byte, find, name_byte, number};
 use crate::say;
 use crate::say::Run;
+use std::io;
 
 // The eleven bytes of a name preset from an offset on.
-pub(crate) fn name(table: &mut [u8], line: &[u8], offset: u8) {
+pub(crate) fn name(rt: &impl Print, table: &mut [u8], line: &[u8], offset: u8) -> io::Result<()> {
     let fcb = number(line, 0) as usize;
     let word = behind(line, 0, b' ');
     let from = behind(line, word, b' ');
@@ -20,21 +21,21 @@ pub(crate) fn name(table: &mut [u8], line: &[u8], offset: u8) {
         );
         i += 1;
     }
-    say::answer(answer);
+    say::answer(rt, answer)
 }
 
-pub(crate) fn preset(table: &mut [u8], line: &[u8]) {
+pub(crate) fn preset(rt: &impl Print, table: &mut [u8], line: &[u8]) -> io::Result<()> {
     let fcb = number(line, 0) as usize;
     let offset = number(line, 1) as usize;
     let answer = blocks::preset(table, fcb, offset, byte(line, 2));
-    say::answer(answer);
+    say::answer(rt, answer)
 }
 
-pub(crate) fn extension(table: &mut [u8], line: &[u8]) {
+pub(crate) fn extension(rt: &impl Print, table: &mut [u8], line: &[u8]) -> io::Result<()> {
     let fcb = number(line, 0) as usize;
     let code = number(line, 1) as usize;
     let answer = blocks::default_extension(table, fcb, code);
-    say::answer(answer);
+    say::answer(rt, answer)
 }
 
 // The function that is called next.
@@ -43,33 +44,38 @@ pub(crate) fn function(table: &mut [u8], line: &[u8], code: u8) {
 }
 
 // A function's name.
-fn say_function(code: u8) {
+fn say_function(rt: &impl Print, code: u8) -> io::Result<()> {
     match code {
-        0 => say::text(b"next byte"),
-        1 => say::text(b"open read"),
-        2 => say::text(b"open write"),
-        4 => say::text(b"close"),
-        5 => say::text(b"rewind"),
-        6 => say::text(b"open directory"),
-        7 => say::text(b"next slot"),
-        8 => say::text(b"put slot"),
-        9 => say::text(b"read sector"),
-        10 => say::text(b"write sector"),
-        12 => say::text(b"delete"),
-        13 => say::text(b"rename"),
-        _ => say::text(b"not served"),
+        0 => say::text(rt, b"next byte"),
+        1 => say::text(rt, b"open read"),
+        2 => say::text(rt, b"open write"),
+        4 => say::text(rt, b"close"),
+        5 => say::text(rt, b"rewind"),
+        6 => say::text(rt, b"open directory"),
+        7 => say::text(rt, b"next slot"),
+        8 => say::text(rt, b"put slot"),
+        9 => say::text(rt, b"read sector"),
+        10 => say::text(rt, b"write sector"),
+        12 => say::text(rt, b"delete"),
+        13 => say::text(rt, b"rename"),
+        _ => say::text(rt, b"not served"),
     }
 }
 
-pub(crate) fn call(image: &mut [u8], table: &mut [u8], line: &[u8]) {
+pub(crate) fn call(
+    rt: &impl Print,
+    image: &mut [u8],
+    table: &mut [u8],
+    line: &[u8],
+) -> io::Result<()> {
     let fcb = number(line, 0) as usize;
     let reply = fms::call(image, table, fcb, byte(line, 2));
-    say::text(b" -> ");
-    say_function(byte(line, 1));
-    say::text(b": ");
-    say::number(reply.answer as usize);
-    say::text(b" byte ");
-    say::number(reply.byte as usize);
+    say::text(rt, b" -> ")?;
+    say_function(rt, byte(line, 1))?;
+    say::text(rt, b": ")?;
+    say::number(rt, reply.answer as usize)?;
+    say::text(rt, b" byte ")?;
+    say::number(rt, reply.byte as usize)
 }
 
 // How many calls were accepted, and the last answer.
@@ -99,76 +105,97 @@ fn send(image: &mut [u8], table: &mut [u8], fcb: usize, n: usize, byte: u8) -> S
     }
 }
 
-pub(crate) fn write(image: &mut [u8], table: &mut [u8], line: &[u8]) {
+pub(crate) fn write(
+    rt: &impl Print,
+    image: &mut [u8],
+    table: &mut [u8],
+    line: &[u8],
+) -> io::Result<()> {
     let fcb = number(line, 0) as usize;
     let n = number(line, 1) as usize;
     let sent = send(image, table, fcb, n, byte(line, 2));
-    say::text(b" -> ");
-    say::number(sent.accepted);
-    say::text(b" accepted, last answer ");
-    say::number(sent.answer as usize);
+    say::text(rt, b" -> ")?;
+    say::number(rt, sent.accepted)?;
+    say::text(rt, b" accepted, last answer ")?;
+    say::number(rt, sent.answer as usize)
 }
 
 // The end of what was read.
-fn end_read(run: Run) {
+fn end_read(rt: &impl Print, run: Run) -> io::Result<()> {
     let times = run.times;
     if times == 0 {
-        say::text(b" none");
-        return;
+        return say::text(rt, b" none");
     }
-    say::end_run(run);
+    say::end_run(rt, run)
 }
 
 // Up to n bytes read and written out, till a call is refused; the last answer.
-fn fetch(image: &mut [u8], table: &mut [u8], fcb: usize, n: usize) -> u8 {
+fn fetch(
+    rt: &impl Print,
+    image: &mut [u8],
+    table: &mut [u8],
+    fcb: usize,
+    n: usize,
+) -> io::Result<u8> {
     let mut run = say::no_run();
     let mut left = n;
     while left > 0 {
         let reply = fms::call(image, table, fcb, 0);
         let answer = reply.answer;
         if answer != 0 {
-            end_read(run);
-            return answer;
+            end_read(rt, run)?;
+            return Ok(answer);
         }
-        run = say::joined(run, reply.byte);
+        run = say::joined(rt, run, reply.byte)?;
         left -= 1;
     }
-    end_read(run);
-    0
+    end_read(rt, run)?;
+    Ok(0)
 }
 
-pub(crate) fn read(image: &mut [u8], table: &mut [u8], line: &[u8]) {
+pub(crate) fn read(
+    rt: &impl Print,
+    image: &mut [u8],
+    table: &mut [u8],
+    line: &[u8],
+) -> io::Result<()> {
     let fcb = number(line, 0) as usize;
-    say::text(b" ->");
+    say::text(rt, b" ->")?;
     let n = number(line, 1) as usize;
-    let answer = fetch(image, table, fcb, n);
-    say::text(b", last answer ");
-    say::number(answer as usize);
+    let answer = fetch(rt, image, table, fcb, n)?;
+    say::text(rt, b", last answer ")?;
+    say::number(rt, answer as usize)
 }
 
 // The error text of a number into a text.
-fn tell(text: &mut [u8], number: u8) {
+fn tell(rt: &impl Print, text: &mut [u8], number: u8) -> io::Result<()> {
     let answer = message::error_text(text, number);
-    say::answer(answer);
-    say::text(b" \"");
-    say::text(text);
-    say::text(b"\"");
+    say::answer(rt, answer)?;
+    say::text(rt, b" \"")?;
+    say::text(rt, text)?;
+    say::text(rt, b"\"")
 }
 
 // The error text of a number into the first n bytes of a text, or into all of it.
-fn tell_in(text: &mut [u8], n: u32, number: u8) {
-    let k = io::count(n as isize, text);
-    tell(&mut text[..k], number);
+fn tell_in(rt: &impl Print, text: &mut [u8], n: u32, number: u8) -> io::Result<()> {
+    let k = text.len().min(n as usize);
+    tell(rt, &mut text[..k], number)
 }
 
-pub(crate) fn text(line: &[u8]) {
+pub(crate) fn text(rt: &impl Print, line: &[u8]) -> io::Result<()> {
     let mut dots = [46u8; 32];
-    tell_in(&mut dots, number(line, 0), byte(line, 1));
+    tell_in(rt, &mut dots, number(line, 0), byte(line, 1))
 }
 
 // What is lent of the image formatted, with a label of the first n bytes of some, or of all of them.
-fn shape_in(image: &mut [u8], line: &[u8], letters: &mut [u8], n: u32) {
-    let k = io::count(n as isize, letters);
+fn shape_in(
+    rt: &impl Print,
+    image: &mut [u8],
+    line: &[u8],
+    letters: &mut [u8],
+    n: u32,
+) -> io::Result<()> {
+    let k = letters.len().min(n as usize);
     let answer = format::format(
         image,
         number(line, 0) as usize,
@@ -179,10 +206,10 @@ fn shape_in(image: &mut [u8], line: &[u8], letters: &mut [u8], n: u32) {
         byte(line, 5),
         byte(line, 6),
     );
-    say::answer(answer);
+    say::answer(rt, answer)
 }
 
-pub(crate) fn shape(image: &mut [u8], line: &[u8]) {
+pub(crate) fn shape(rt: &impl Print, image: &mut [u8], line: &[u8]) -> io::Result<()> {
     let mut letters = *b"ABCDEFGHIJKLMNOPQRSTUVWXYZABCDEF";
-    shape_in(image, line, &mut letters, number(line, 2));
+    shape_in(rt, image, line, &mut letters, number(line, 2))
 }

@@ -1,6 +1,5 @@
 // The commands of a script, and which of them a line has by its first word.
 use crate::line::find;
-use check::same;
 
 #[derive(Clone, Copy)]
 pub(crate) enum Command {
@@ -26,28 +25,28 @@ pub(crate) enum Command {
 
 // A word that asks the service for something that may change the buffers.
 fn asking_word(word: &[u8]) -> Command {
-    if same(word, b"name") {
+    if word == b"name".as_slice() {
         return Command::Name;
     }
-    if same(word, b"as") {
+    if word == b"as".as_slice() {
         return Command::As;
     }
-    if same(word, b"preset") {
+    if word == b"preset".as_slice() {
         return Command::Preset;
     }
-    if same(word, b"extension") {
+    if word == b"extension".as_slice() {
         return Command::Extension;
     }
-    if same(word, b"call") {
+    if word == b"call".as_slice() {
         return Command::Call;
     }
-    if same(word, b"write") {
+    if word == b"write".as_slice() {
         return Command::Write;
     }
-    if same(word, b"read") {
+    if word == b"read".as_slice() {
         return Command::Read;
     }
-    if same(word, b"shape") {
+    if word == b"shape".as_slice() {
         return Command::Shape;
     }
     Command::Unknown
@@ -55,28 +54,28 @@ fn asking_word(word: &[u8]) -> Command {
 
 // The command that a word is.
 fn of_word(word: &[u8]) -> Command {
-    if same(word, b"#") {
+    if word == b"#".as_slice() {
         return Command::Heading;
     }
-    if same(word, b"fresh") {
+    if word == b"fresh".as_slice() {
         return Command::Fresh;
     }
-    if same(word, b"lend") {
+    if word == b"lend".as_slice() {
         return Command::Lend;
     }
-    if same(word, b"diff") {
+    if word == b"diff".as_slice() {
         return Command::Diff;
     }
-    if same(word, b"map") {
+    if word == b"map".as_slice() {
         return Command::Map;
     }
-    if same(word, b"text") {
+    if word == b"text".as_slice() {
         return Command::Text;
     }
-    if same(word, b"image") {
+    if word == b"image".as_slice() {
         return Command::Image;
     }
-    if same(word, b"block") {
+    if word == b"block".as_slice() {
         return Command::Block;
     }
     asking_word(word)

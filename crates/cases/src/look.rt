@@ -5,6 +5,7 @@ use crate::line::{Found, find, number, number_at};
 use crate::say;
 use crate::say::Run;
 use cells::{get, put};
+use std::io;
 
 // The numbers of a line from an index on, put as bytes from a place on.
 fn put_all(s: &mut [u8], from: usize, line: &[u8], index: usize)
@@ -21,62 +22,69 @@ fn put_all(s: &mut [u8], from: usize, line: &[u8], index: usize)
 }
 
 // Bytes from a place on: those of the line put there where it has a `=`; else as many shown as it says.
-fn at(s: &mut [u8], from: usize, line: &[u8], index: usize)
+fn at(rt: &impl Print, s: &mut [u8], from: usize, line: &[u8], index: usize) -> io::Result<()>
     requires { (from < 2199023255552) × (index < 8) }
 {
     let sign = find(line, 0, b'=');
     if sign < line.len() {
         put_all(s, from, line, index);
-        return;
+        return Ok(());
     }
-    say::bytes(s, from, number(line, index) as usize);
+    say::bytes(rt, s, from, number(line, index) as usize)
 }
 
-pub(crate) fn image(image: &mut [u8], line: &[u8]) {
-    at(image, number(line, 0) as usize, line, 1);
+pub(crate) fn image(rt: &impl Print, image: &mut [u8], line: &[u8]) -> io::Result<()> {
+    at(rt, image, number(line, 0) as usize, line, 1)
 }
 
-pub(crate) fn block(table: &mut [u8], line: &[u8]) {
+pub(crate) fn block(rt: &impl Print, table: &mut [u8], line: &[u8]) -> io::Result<()> {
     let block = number(line, 0) as usize;
     let offset = number(line, 1) as usize;
-    at(table, 320 * block + offset, line, 2);
+    at(rt, table, 320 * block + offset, line, 2)
 }
 
 // Where a run of changed bytes begins: in the image, or in a block.
-fn say_place(is_image: bool, at: usize) {
-    say::text(b"\n  ");
+fn say_place(rt: &impl Print, is_image: bool, at: usize) -> io::Result<()> {
+    say::text(rt, b"\n  ")?;
     if is_image {
-        say::text(b"image ");
-        say::number(at);
+        say::text(rt, b"image ")?;
+        say::number(rt, at)?;
     } else {
-        say::text(b"block ");
-        say::number(at / 320);
-        say::text(b" ");
-        say::number(at % 320);
+        say::text(rt, b"block ")?;
+        say::number(rt, at / 320)?;
+        say::text(rt, b" ")?;
+        say::number(rt, at % 320)?;
     }
-    say::text(b":");
+    say::text(rt, b":")
 }
 
 // One place: its byte in the run of changed ones, or the run is over.
-fn compared(is_image: bool, at: usize, run: Run, now: u8, before: u8) -> Run {
+fn compared(
+    rt: &impl Print,
+    is_image: bool,
+    at: usize,
+    run: Run,
+    now: u8,
+    before: u8,
+) -> io::Result<Run> {
     let times = run.times;
     if now == before {
-        say::end_run(run);
-        return say::no_run();
+        say::end_run(rt, run)?;
+        return Ok(say::no_run());
     }
     if times == 0 {
-        say_place(is_image, at);
+        say_place(rt, is_image, at)?;
     }
-    say::joined(run, now)
+    say::joined(rt, run, now)
 }
 
 // The bytes of s that are not what they were.
-pub(crate) fn changes(is_image: bool, s: &[u8], before: &[u8]) {
+pub(crate) fn changes(rt: &impl Print, is_image: bool, s: &[u8], before: &[u8]) -> io::Result<()> {
     let mut run = say::no_run();
     let mut i = 0;
     while i < s.len() {
-        run = compared(is_image, i, run, get(s, i), get(before, i));
+        run = compared(rt, is_image, i, run, get(s, i), get(before, i))?;
         i += 1;
     }
-    say::end_run(run);
+    say::end_run(rt, run)
 }

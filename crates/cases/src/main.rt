@@ -26,7 +26,8 @@
 //   block B O = V V .. bytes put into the block by hand
 //
 // A line that begins with `?` says what is wrong: a word that is none of these, or a file that is empty, that has more than 65,536 bytes,
-// that cannot be opened, or that cannot be read. The last five arguments are wrong on purpose, one for each of these.
+// that cannot be opened, as one whose name is no UTF-8 text, or that cannot be read. The last five arguments are wrong on purpose, one for
+// each of these.
 #![tactic(auto)]
 
 mod ask;
@@ -37,55 +38,63 @@ mod map;
 mod say;
 mod script;
 
-// What a file has behind what was read of it, and the file is closed: a number above 0 where there is more, below 0 where it cannot be
+use std::env::{Env, FillError};
+use std::fs::Files;
+use std::io::{ErrorKind, Read};
+use std::{fs, io, str};
+
+// What a file has behind what was read of it, and the file is closed: a number above 0 where there is more, an error where it cannot be
 // read.
-fn rest(file: i32) -> isize {
+fn rest(mut file: impl Read + Drop) -> io::Result<usize> {
     let mut byte = [0u8; 1];
-    let got = libc::read(file, &mut byte);
-    libc::close(file);
-    got
+    file.read(&mut byte)
 }
 
 // The script in an open file.
-fn run_file(file: i32) {
-    let mut script = io::large_buffer();
-    let n = io::read_full(file, &mut script);
-    let more = rest(file);
-    if more < 0 {
-        say::text(b"? the file cannot be read\n");
-        return;
+fn run_file<R: Files + Print + Alloc>(rt: &R, mut file: R::File) -> io::Result<()> {
+    let mut script = Vec::new(rt.alloc());
+    let more = match file.by_ref().take(65536).read_to_end(&mut script) {
+        Ok(_) => rest(file),
+        Err(e) => Err(e),
+    };
+    match more {
+        Err(e) if e.kind() == ErrorKind::OutOfMemory => Err(e),
+        Err(_) => say::text(rt, b"? the file cannot be read\n"),
+        Ok(0) if script.is_empty() => say::text(rt, b"? the file is empty\n"),
+        Ok(0) => script::run(rt, &script),
+        Ok(_) => say::text(rt, b"? the file has more than 65,536 bytes\n"),
     }
-    if more > 0 {
-        say::text(b"? the file has more than 65,536 bytes\n");
-        return;
-    }
-    if n == 0 {
-        say::text(b"? the file is empty\n");
-        return;
-    }
-    script::run(&script[..n]);
 }
 
-// The script in the file that argument i names.
-fn run_named(i: usize) {
-    let mut name = io::buffer();
-    let n = os::arg(i, &mut name);
-    say::text(b"\nfile ");
-    say::text(&name[..n]);
-    say::text(b"\n");
-    let file = os::open_read(&name[..n]);
-    if file < 0 {
-        say::text(b"? the file cannot be opened\n");
-        return;
-    }
-    run_file(file);
+// The file of this name, open; none where it cannot be opened.
+fn open_read<R: Files>(rt: &R, name: &[u8]) -> Option<R::File> {
+    let path = str::from_utf8(name).ok()?;
+    fs::open(rt, path).ok()
 }
 
-fn main() {
-    let n = os::arg_count();
-    let mut i = 1;
-    while i < n {
-        run_named(i);
-        i += 1;
+// The script in the file that argument i names; whether there is such an argument.
+fn run_named<R: Env + Files + Print + Alloc>(rt: &R, i: usize) -> io::Result<bool> {
+    let mut name = [0u8; 4096];
+    let n = match rt.arg(i, &mut name) {
+        Ok(n) => n,
+        Err(FillError::TooLong) => 0,
+        Err(FillError::NotPresent) => return Ok(false),
+    };
+    say::text(rt, b"\nfile ")?;
+    say::text(rt, &name[..n])?;
+    say::text(rt, b"\n")?;
+    match open_read(rt, &name[..n]) {
+        Some(file) => run_file(rt, file)?,
+        None => say::text(rt, b"? the file cannot be opened\n")?,
     }
+    Ok(true)
+}
+
+fn main(rt: HostRuntime) -> io::Result<()> {
+    for i in 1..usize::MAX {
+        if !run_named(&rt, i)? {
+            break;
+        }
+    }
+    Ok(())
 }

@@ -1,6 +1,8 @@
 // The census program on two live slots with one name. crates/census_tool/images.py wrote `stdin`.
 #![tactic(auto)]
 
-fn main() {
-    census_tool::run();
+use std::io;
+
+fn main(rt: HostRuntime) -> io::Result<()> {
+    census_tool::run(&rt)
 }

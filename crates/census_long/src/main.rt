@@ -1,6 +1,8 @@
 // The census program on input of 64,001 bytes. crates/census_tool/images.py wrote `stdin`.
 #![tactic(auto)]
 
-fn main() {
-    census_tool::run();
+use std::io;
+
+fn main(rt: HostRuntime) -> io::Result<()> {
+    census_tool::run(&rt)
 }

@@ -1,6 +1,8 @@
 // The census program on the image of P4: 253 bytes written and closed on the five-sector diskette. crates/census_tool/images.py wrote `stdin`.
 #![tactic(auto)]
 
-fn main() {
-    census_tool::run();
+use std::io;
+
+fn main(rt: HostRuntime) -> io::Result<()> {
+    census_tool::run(&rt)
 }

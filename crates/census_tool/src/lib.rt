@@ -11,6 +11,8 @@ use cells::{put, store};
 use census::census;
 use chainwalk::data_sectors;
 use disk::{Shaped, shape_of};
+use std::io;
+use std::io::Read;
 
 // A digit as a letter.
 fn letter(n: u16) -> u8
@@ -181,10 +183,10 @@ pub fn print(image: &[u8], out: &mut [u8], at: u16) -> usize
 }
 
 // The program: an image is read from standard input, up to 65,536 bytes of it, and what is to be printed is written to standard output.
-pub fn run() {
-    let mut input = io::large_buffer();
-    let count = io::read_full(0, &mut input);
-    let mut out = io::buffer();
-    let n = print(&input[..count], &mut out, 0);
-    io::write_all(1, &out[..n]);
+pub fn run(rt: &(impl Input + Print + Alloc)) -> io::Result<()> {
+    let mut input = Vec::new(rt.alloc());
+    rt.reader().take(65536).read_to_end(&mut input)?;
+    let mut out = [0u8; 4096];
+    let n = print(&input, &mut out, 0);
+    rt.write_all(&out[..n])
 }

@@ -12,6 +12,8 @@ ghost use Rattle.repair_tool.specs.Reported.{closed, answered, reported};
 use cells::{put, store};
 use census_tool::put_decimal;
 use repair::repair;
+use std::io;
+use std::io::Read;
 
 // A table of which every block is closed.
 fn closed_table() -> [u8; 2560]
@@ -45,10 +47,10 @@ pub fn print(image: &mut [u8], out: &mut [u8]) -> usize
 }
 
 // The program: an image is read from standard input, up to 65,536 bytes of it, and what is to be printed is written to standard output.
-pub fn run() {
-    let mut input = io::large_buffer();
-    let count = io::read_full(0, &mut input);
-    let mut out = io::large_buffer();
-    let n = print(&mut input[..count], &mut out);
-    io::write_all(1, &out[..n]);
+pub fn run(rt: &(impl Input + Print + Alloc)) -> io::Result<()> {
+    let mut input = Vec::new(rt.alloc());
+    rt.reader().take(65536).read_to_end(&mut input)?;
+    let mut out = [0u8; 65536];
+    let n = print(&mut input, &mut out);
+    rt.write_all(&out[..n])
 }
