@@ -1,5 +1,4 @@
 use Rattle.census.proofs.Laws.{census-wrong, census-shape, census-right}
-use borrow.Author.Rules.{rules}
 use Rattle.census.proofs.census.Goals as goal
 
 pub sized-requires : goal.sized-requires

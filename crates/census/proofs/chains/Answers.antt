@@ -1,5 +1,4 @@
 use Rattle.census_laws.specs.Whole.{free-wrong, files-wrong, ended-right}
-use borrow.Author.Rules.{rules}
 use Rattle.census.proofs.chains.Goals as goal
 
 pub returns-in-Wrong : goal.returns-in-Wrong

@@ -1,6 +1,5 @@
 use borrow.Author.Tests.{not-true, not-false}
 use Rattle.census.proofs.Laws.{end_short, end-twice, end-owned}
-use borrow.Author.Rules.{rules}
 use Rattle.census.proofs.end.Goals as goal
 
 pub returns-then-n-sectors : goal.returns-then-n-sectors

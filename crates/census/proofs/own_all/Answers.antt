@@ -1,5 +1,4 @@
 use Rattle.census.proofs.Laws.{own-done}
-use borrow.Author.Rules.{rules}
 use Rattle.census.proofs.own_all.Goals as goal
 
 pub returns : goal.returns

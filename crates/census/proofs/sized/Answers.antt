@@ -1,5 +1,4 @@
 use Rattle.census_laws.specs.Whole.{sized-first, sized-second, sized-done, sized-filled}
-use borrow.Author.Rules.{rules}
 use Rattle.census.proofs.sized.Goals as goal
 
 pub returns-then-sectors-n : goal.returns-then-sectors-n

@@ -1,5 +1,4 @@
 use Rattle.census_bytes.proofs.Laws.{room, ready}
-use borrow.Author.Rules.{rules}
 use Rattle.census_bytes.proofs.by_most.Goals as goal
 
 pub slice_bounds-on_numbers-end : goal.slice_bounds-on_numbers-end

@@ -1,5 +1,4 @@
 use Rattle.census_bytes.proofs.Laws.{host-both}
-use borrow.Author.Rules.{rules}
 use Rattle.census_bytes.proofs.on_numbers.Goals as goal
 
 pub returns : goal.returns

@@ -1,5 +1,4 @@
 use Rattle.census_bytes.proofs.Laws.{few, host-first, host-second, product-fits, twice-fits, numbers-ready}
-use borrow.Author.Rules.{rules}
 use Rattle.census_bytes.proofs.on_shape.Goals as goal
 
 pub overflow_mul-n : goal.overflow_mul-n

@@ -1,9 +1,4 @@
-use mathlib.Core.Path.{◌≡◌}
-use Prim.Native.Nat.{◌-◌, ◌≤◌}
 use native.Mathlib.Omega.{arith}
-use lib.ListN.{length, take}
-use Rattle.rules.specs.Bytes.{over}
-use Rattle.rules.specs.Host.{as_bytes}
 use Rattle.census_bytes.proofs.Laws.{spread_none, spread-more, spread-all}
 use borrow.Author.Rules.{rules}
 use Rattle.census_bytes.proofs.spread.Goals as goal

@@ -1,5 +1,4 @@
 use Rattle.census_laws.specs.Walks.{chain-long, chain-walked}
-use borrow.Author.Rules.{rules}
 use Rattle.chainwalk.proofs.chain_at.Goals as goal
 
 pub returns-then-count-most : goal.returns-then-count-most

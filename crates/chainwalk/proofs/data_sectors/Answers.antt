@@ -1,6 +1,5 @@
 use native.Mathlib.Omega.{arith}
 use Rattle.census_laws.specs.Limits.{few-data}
-use borrow.Author.Rules.{rules}
 use Rattle.chainwalk.proofs.data_sectors.Goals as goal
 
 pub overflow_mul-result : goal.overflow_mul-result

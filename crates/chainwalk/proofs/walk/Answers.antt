@@ -1,11 +1,8 @@
-use mathlib.Core.Path.{◌≡◌, refl}
-use Prim.Native.Nat.{◌+◌}
+use mathlib.Core.Path.{refl}
 use native.Mathlib.Omega.{arith}
-use lib.ListN.{length}
 use borrow.Author.Tests.{not-true, not-false}
 use Rattle.census_laws.specs.Stored.{over-kept}
-use Rattle.census_laws.specs.Walks.{walk, walk-bad, walk-on, walk-further, walk-elsewhere, walk-done}
-use borrow.Author.Rules.{rules}
+use Rattle.census_laws.specs.Walks.{walk-bad, walk-on, walk-further, walk-elsewhere, walk-done}
 use Rattle.chainwalk.proofs.walk.Goals as goal
 
 pub loop-left-init : goal.loop-left-init

@@ -1,10 +1,7 @@
-use mathlib.Core.Path.{◌≡◌, refl}
+use mathlib.Core.Path.{◌≡◌}
 use Prim.Native.Nat.{◌+◌}
-use native.Mathlib.Omega.{arith}
 use lib.ListN.{length}
-use borrow.Author.Tests.{not-true, not-false}
-use Rattle.census_laws.specs.Stored.{over-kept}
-use Rattle.census_laws.specs.Walks.{walk, walk-bad, walk-on, walk-further, walk-elsewhere, walk-done}
+use Rattle.census_laws.specs.Walks.{walk}
 use Rattle.chainwalk.proofs.walk.Given as goal
 
 abbrev pub invariant-loop-left : goal.invariant-loop-left

@@ -1,5 +1,4 @@
 use Rattle.files.proofs.Laws.{sector-added}
-use borrow.Author.Rules.{rules}
 use Rattle.files.proofs.add_sector.Goals as goal
 
 pub returns : goal.returns

@@ -2,7 +2,6 @@ use Rattle.rules.specs.Files.{delete}
 use Rattle.files.specs.Parts.{delete_at}
 use Rattle.laws.specs.Settled.{unless-refused, unless-on, slot-on, slot-missing, slot-broken}
 use borrow.Author.Tests.{not-true, not-false}
-use borrow.Author.Rules.{rules}
 use Rattle.files.proofs.delete.Goals as goal
 
 pub returns-then-not-legal : goal.returns-then-not-legal

@@ -1,6 +1,5 @@
 use Rattle.files.specs.Parts.{delete_at}
 use Rattle.laws.specs.Settled.{when-refused, when-on}
-use borrow.Author.Rules.{rules}
 use Rattle.files.proofs.delete_at.Goals as goal
 
 pub returns-then-used : goal.returns-then-used

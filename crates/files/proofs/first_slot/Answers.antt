@@ -1,7 +1,6 @@
 use borrow.Author.Tests.{not-true, not-false}
 use Rattle.files.specs.Parts.{first_slot}
 use Rattle.laws.specs.Settled.{unless-refused, unless-on}
-use borrow.Author.Rules.{rules}
 use Rattle.files.proofs.first_slot.Goals as goal
 
 pub returns-then-not-right : goal.returns-then-not-right

@@ -1,5 +1,4 @@
 use Rattle.files.proofs.Laws.{grow-refused, grow-done}
-use borrow.Author.Rules.{rules}
 use Rattle.files.proofs.grow.Goals as goal
 
 pub returns-then-fault-ne0 : goal.returns-then-fault-ne0

@@ -1,5 +1,4 @@
 use Rattle.files.proofs.Laws.{fault-free, fault-none, fault-longest}
-use borrow.Author.Rules.{rules}
 use Rattle.files.proofs.growth_fault.Goals as goal
 
 pub returns-then-fault-ne0 : goal.returns-then-fault-ne0

@@ -1,5 +1,4 @@
 use Rattle.files.proofs.Laws.{track-set, sector-set, displacement-set, none-set}
-use borrow.Author.Rules.{rules}
 use Rattle.files.proofs.is_before_first.Goals as goal
 
 pub returns-then-track-ne0 : goal.returns-then-track-ne0

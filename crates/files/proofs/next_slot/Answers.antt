@@ -1,5 +1,4 @@
 use Rattle.files.proofs.Laws.{next-first, next-further}
-use borrow.Author.Rules.{rules}
 use Rattle.files.proofs.next_slot.Goals as goal
 
 pub returns-then-first : goal.returns-then-first

@@ -1,5 +1,4 @@
 use Rattle.files.specs.Parts.{opening}
-use borrow.Author.Rules.{rules}
 use Rattle.files.proofs.open_block.Goals as goal
 
 pub returns : goal.returns

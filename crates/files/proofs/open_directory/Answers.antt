@@ -1,5 +1,4 @@
 use Rattle.rules.specs.Files.{open_directory}
-use borrow.Author.Rules.{rules}
 use Rattle.files.proofs.open_directory.Goals as goal
 
 pub returns : goal.returns

@@ -2,7 +2,6 @@ use Rattle.rules.specs.Files.{open_read}
 use Rattle.files.specs.Parts.{open_read_at}
 use Rattle.laws.specs.Settled.{unless-refused, unless-on, slot-on, slot-missing, slot-broken}
 use borrow.Author.Tests.{not-true, not-false}
-use borrow.Author.Rules.{rules}
 use Rattle.files.proofs.open_read.Goals as goal
 
 pub returns-then-not-legal : goal.returns-then-not-legal

@@ -1,7 +1,6 @@
 use Rattle.files.specs.Parts.{open_read_at}
 use Rattle.laws.specs.Settled.{when-refused, when-on}
 use Rattle.files.proofs.Laws.{read_opened}
-use borrow.Author.Rules.{rules}
 use Rattle.files.proofs.open_read_at.Goals as goal
 
 pub returns-then-secret : goal.returns-then-secret

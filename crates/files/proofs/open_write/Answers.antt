@@ -2,7 +2,6 @@ use Rattle.rules.specs.Files.{open_write}
 use Rattle.files.specs.Parts.{open_write_new, open_write_at}
 use Rattle.laws.specs.Settled.{unless-refused, unless-on, none-on, none-there, none-broken}
 use borrow.Author.Tests.{not-true, not-false}
-use borrow.Author.Rules.{rules}
 use Rattle.files.proofs.open_write.Goals as goal
 
 pub returns-then-not-legal : goal.returns-then-not-legal

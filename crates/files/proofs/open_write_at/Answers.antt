@@ -1,5 +1,4 @@
 use Rattle.files.proofs.Laws.{write-opened}
-use borrow.Author.Rules.{rules}
 use Rattle.files.proofs.open_write_at.Goals as goal
 
 pub returns : goal.returns

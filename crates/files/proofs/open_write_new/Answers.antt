@@ -1,6 +1,5 @@
 use Rattle.files.specs.Parts.{open_write_new}
 use Rattle.files.proofs.Laws.{else-slot, else-other, else-broken}
-use borrow.Author.Rules.{rules}
 use Rattle.files.proofs.open_write_new.Goals as goal
 
 pub returns-in-At : goal.returns-in-At

@@ -2,7 +2,6 @@ use Rattle.rules.specs.Files.{read_sector}
 use Rattle.laws.specs.Settled.{sector-none}
 use borrow.Author.Tests.{not-true, not-false}
 use Rattle.files.proofs.Laws.{sector-read}
-use borrow.Author.Rules.{rules}
 use Rattle.files.proofs.read_sector.Goals as goal
 
 pub returns-then-not-there : goal.returns-then-not-there

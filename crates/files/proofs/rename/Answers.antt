@@ -2,7 +2,6 @@ use Rattle.rules.specs.Files.{rename}
 use Rattle.files.specs.Parts.{renamed, rename_at}
 use Rattle.laws.specs.Settled.{unless-refused, unless-on, slot-on, slot-missing, slot-broken}
 use borrow.Author.Tests.{not-true, not-false}
-use borrow.Author.Rules.{rules}
 use Rattle.files.proofs.rename.Goals as goal
 
 pub returns-then-not-legal : goal.returns-then-not-legal

@@ -1,6 +1,5 @@
 use Rattle.files.specs.Parts.{rename_at}
 use Rattle.laws.specs.Settled.{when-refused, when-on, none-there, none-on, none-broken}
-use borrow.Author.Rules.{rules}
 use Rattle.files.proofs.rename_at.Goals as goal
 
 pub returns-then-busy : goal.returns-then-busy

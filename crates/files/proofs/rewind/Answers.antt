@@ -1,5 +1,4 @@
 use Rattle.rules.specs.Files.{rewind}
-use borrow.Author.Rules.{rules}
 use Rattle.files.proofs.rewind.Goals as goal
 
 pub returns : goal.returns

@@ -1,6 +1,5 @@
 use Rattle.files.specs.Parts.{slot_after}
 use Rattle.laws.specs.Settled.{slot-on, slot-missing, slot-broken}
-use borrow.Author.Rules.{rules}
 use Rattle.files.proofs.slot_after.Goals as goal
 
 pub returns-in-At : goal.returns-in-At

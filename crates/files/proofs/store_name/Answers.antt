@@ -1,5 +1,4 @@
 use Rattle.files.proofs.Laws.{name-stored}
-use borrow.Author.Rules.{rules}
 use Rattle.files.proofs.store_name.Goals as goal
 
 pub returns : goal.returns

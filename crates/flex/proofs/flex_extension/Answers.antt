@@ -1,5 +1,4 @@
 use Rattle.flex.proofs.Hosting.{extending}
-use borrow.Author.Rules.{rules}
 use Rattle.flex.proofs.flex_extension.Goals as goal
 
 pub returns : goal.returns

@@ -1,5 +1,4 @@
 use Rattle.flex.proofs.Hosting.{presetting}
-use borrow.Author.Rules.{rules}
 use Rattle.flex.proofs.flex_preset.Goals as goal
 
 pub returns : goal.returns

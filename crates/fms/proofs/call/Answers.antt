@@ -1,5 +1,4 @@
 use Rattle.fms.proofs.Layers.{call-table, call-number, call-on}
-use borrow.Author.Rules.{rules}
 use Rattle.fms.proofs.call.Goals as goal
 
 pub returns-then-table-ne-TABLE_LENGTH : goal.returns-then-table-ne-TABLE_LENGTH

@@ -1,5 +1,4 @@
 use Rattle.fms.proofs.Layers.{block-right, block-wrong}
-use borrow.Author.Rules.{rules}
 use Rattle.fms.proofs.on_block.Goals as goal
 
 pub returns-in-Right : goal.returns-in-Right

@@ -1,5 +1,4 @@
 use Rattle.fms.proofs.Layers.{shape-unknown, shape-drive, shape-unfit, shape-fit}
-use borrow.Author.Rules.{rules}
 use Rattle.fms.proofs.on_shape.Goals as goal
 
 pub returns-then-not-known : goal.returns-then-not-known

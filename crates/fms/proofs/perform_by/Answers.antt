@@ -1,5 +1,4 @@
 use Rattle.fms.proofs.Dispatch.{does-0, does-1, does-2, does-4, does-5, does-6, does-7, does-8, does-9, does-10, does-12, does-13}
-use borrow.Author.Rules.{rules}
 use Rattle.fms.proofs.perform_by.Goals as goal
 
 pub returns-in-0 : goal.returns-in-0

@@ -1,5 +1,4 @@
 use Rattle.fms.proofs.Dispatch.{sends, gets, gets-not}
-use borrow.Author.Rules.{rules}
 use Rattle.fms.proofs.transfer_byte.Goals as goal
 
 pub returns-then-act-ne1 : goal.returns-then-act-ne1

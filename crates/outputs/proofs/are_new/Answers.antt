@@ -1,5 +1,4 @@
 use Rattle.census_laws.specs.Marks.{mark-cleared}
-use borrow.Author.Rules.{rules}
 use Rattle.outputs.proofs.are_new.Goals as goal
 
 pub returns : goal.returns

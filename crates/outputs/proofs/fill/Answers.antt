@@ -1,5 +1,4 @@
 use Rattle.census_laws.specs.Stored.{run-whole}
-use borrow.Author.Rules.{rules}
 use Rattle.outputs.proofs.fill.Goals as goal
 
 pub returns : goal.returns

@@ -1,9 +1,7 @@
-use mathlib.Core.Path.{◌≡◌, refl}
-use Prim.Native.Nat.{◌-◌, ◌≤◌}
+use mathlib.Core.Path.{refl}
 use native.Mathlib.Omega.{arith}
-use lib.ListN.{length, drop, length-set}
-use Rattle.census_laws.specs.Marks.{marking, mark-large, mark-twice, mark_on, mark-end}
-use borrow.Author.Rules.{rules}
+use lib.ListN.{length-set}
+use Rattle.census_laws.specs.Marks.{mark-large, mark-twice, mark_on, mark-end}
 use Rattle.outputs.proofs.mark.Goals as goal
 
 pub loop-i-init : goal.loop-i-init

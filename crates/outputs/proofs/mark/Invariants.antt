@@ -1,8 +1,7 @@
-use mathlib.Core.Path.{◌≡◌, refl}
+use mathlib.Core.Path.{◌≡◌}
 use Prim.Native.Nat.{◌-◌, ◌≤◌}
-use native.Mathlib.Omega.{arith}
-use lib.ListN.{length, drop, length-set}
-use Rattle.census_laws.specs.Marks.{marking, mark-large, mark-twice, mark_on, mark-end}
+use lib.ListN.{length, drop}
+use Rattle.census_laws.specs.Marks.{marking}
 use Rattle.outputs.proofs.mark.Given as goal
 
 abbrev pub invariant-loop-i : goal.invariant-loop-i

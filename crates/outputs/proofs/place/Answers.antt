@@ -1,7 +1,6 @@
 use mathlib.Core.Path.{sym}
 use native.Mathlib.Omega.{arith}
 use Rattle.laws.specs.Bytes.{over-one, over-out}
-use borrow.Author.Rules.{rules}
 use Rattle.outputs.proofs.place.Goals as goal
 
 pub returns-then-out-at : goal.returns-then-out-at

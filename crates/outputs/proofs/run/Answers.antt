@@ -1,11 +1,8 @@
-use mathlib.Core.Path.{◌≡◌, sym}
-use Prim.Native.Nat.{◌-◌, ◌≤◌, ◌<◌}
+use mathlib.Core.Path.{sym}
 use native.Mathlib.Omega.{arith}
-use lib.ListN.{length, take, replicate, length-set}
-use Rattle.rules.specs.Bytes.{over}
+use lib.ListN.{length-set}
 use Rattle.laws.specs.Bytes.{over-out, over_none}
 use Rattle.census_laws.specs.Stored.{run_more, run-full, run-all}
-use borrow.Author.Rules.{rules}
 use Rattle.outputs.proofs.run.Goals as goal
 
 pub returns-then-out-at : goal.returns-then-out-at

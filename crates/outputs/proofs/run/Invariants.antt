@@ -1,10 +1,7 @@
-use mathlib.Core.Path.{◌≡◌, sym}
+use mathlib.Core.Path.{◌≡◌}
 use Prim.Native.Nat.{◌-◌, ◌≤◌, ◌<◌}
-use native.Mathlib.Omega.{arith}
-use lib.ListN.{length, take, replicate, length-set}
+use lib.ListN.{length, take, replicate}
 use Rattle.rules.specs.Bytes.{over}
-use Rattle.laws.specs.Bytes.{over-out, over_none}
-use Rattle.census_laws.specs.Stored.{run_more, run-full, run-all}
 use Rattle.outputs.proofs.run.Given as goal
 
 abbrev pub invariant-loop-i : goal.invariant-loop-i

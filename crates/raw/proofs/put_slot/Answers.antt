@@ -1,7 +1,6 @@
 use Rattle.rules.specs.Files.{put_slot}
 use Rattle.laws.specs.Settled.{slot-on, slot-missing, slot-broken}
 use Rattle.raw.specs.Parts.{put_slot_at}
-use borrow.Author.Rules.{rules}
 use Rattle.raw.proofs.put_slot.Goals as goal
 
 pub returns-in-At : goal.returns-in-At

@@ -1,5 +1,4 @@
 use Rattle.raw.proofs.Laws.{slot-put}
-use borrow.Author.Rules.{rules}
 use Rattle.raw.proofs.put_slot_at.Goals as goal
 
 pub returns : goal.returns

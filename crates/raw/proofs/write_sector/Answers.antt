@@ -2,7 +2,6 @@ use Rattle.rules.specs.Files.{write_sector}
 use Rattle.laws.specs.Settled.{sector-none}
 use borrow.Author.Tests.{not-true, not-false}
 use Rattle.raw.proofs.Laws.{sector-written}
-use borrow.Author.Rules.{rules}
 use Rattle.raw.proofs.write_sector.Goals as goal
 
 pub returns-then-not-there : goal.returns-then-not-there

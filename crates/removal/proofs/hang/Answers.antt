@@ -1,5 +1,4 @@
 use Rattle.removal.proofs.Laws.{hung}
-use borrow.Author.Rules.{rules}
 use Rattle.removal.proofs.hang.Goals as goal
 
 pub returns : goal.returns

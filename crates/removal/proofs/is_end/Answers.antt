@@ -1,6 +1,5 @@
 use Rattle.laws.specs.Tests.{tests}
 use Rattle.removal.specs.Hanging.{is_end}
-use borrow.Author.Rules.{rules}
 use Rattle.removal.proofs.is_end.Goals as goal
 
 pub returns-then-free-eq0 : goal.returns-then-free-eq0

@@ -1,5 +1,4 @@
 use Rattle.removal.proofs.Laws.{marked}
-use borrow.Author.Rules.{rules}
 use Rattle.removal.proofs.mark.Goals as goal
 
 pub returns : goal.returns

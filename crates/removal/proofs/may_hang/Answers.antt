@@ -1,6 +1,5 @@
 use borrow.Author.Tests.{not-true, not-false}
 use Rattle.removal.proofs.Laws.{start-bad, end-bad, tail-bad, sum-bad, all-good}
-use borrow.Author.Rules.{rules}
 use Rattle.removal.proofs.may_hang.Goals as goal
 
 pub returns-then-not-start : goal.returns-then-not-start

@@ -1,6 +1,5 @@
 use borrow.Author.Tests.{not-true, not-false}
 use Rattle.removal.proofs.Laws.{hang-fits, removed-empty, remove-refused, removed}
-use borrow.Author.Rules.{rules}
 use Rattle.removal.proofs.remove.Goals as goal
 
 pub returns-then-entry-eq0 : goal.returns-then-entry-eq0

@@ -1,5 +1,4 @@
 use Rattle.removal.proofs.Laws.{marked-shown}
-use borrow.Author.Rules.{rules}
 use Rattle.removal.proofs.show_marked.Goals as goal
 
 pub returns : goal.returns

@@ -1,10 +1,6 @@
-use mathlib.Core.Path.{◌≡◌, refl}
-use Prim.Native.Nat.{◌≤◌}
+use mathlib.Core.Path.{refl}
 use native.Mathlib.Omega.{arith}
-use Rattle.rules.specs.Block.{blocks}
-use Rattle.rules.specs.Repair.{all_closed}
 use Rattle.repair.proofs.Laws.{closed_all, closed-not, closed_on}
-use borrow.Author.Rules.{rules}
 use Rattle.repair.proofs.all_closed.Goals as goal
 
 pub loop-left-init : goal.loop-left-init

@@ -1,9 +1,7 @@
-use mathlib.Core.Path.{◌≡◌, refl}
+use mathlib.Core.Path.{◌≡◌}
 use Prim.Native.Nat.{◌≤◌}
-use native.Mathlib.Omega.{arith}
 use Rattle.rules.specs.Block.{blocks}
 use Rattle.rules.specs.Repair.{all_closed}
-use Rattle.repair.proofs.Laws.{closed_all, closed-not, closed_on}
 use Rattle.repair.proofs.all_closed.Given as goal
 
 abbrev pub invariant-loop-left : goal.invariant-loop-left

@@ -1,5 +1,4 @@
 use Rattle.laws.specs.Tests.{tests}
-use borrow.Author.Rules.{rules}
 use Rattle.repair.proofs.end_of.Goals as goal
 
 pub returns-then-free-eq0 : goal.returns-then-free-eq0

@@ -1,6 +1,5 @@
 use borrow.Author.Tests.{not-true, not-false}
 use Rattle.repair.proofs.Laws.{open_no, open_by}
-use borrow.Author.Rules.{rules}
 use Rattle.repair.proofs.is_open.Goals as goal
 
 pub returns-then-not-data : goal.returns-then-not-data

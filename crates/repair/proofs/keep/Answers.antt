@@ -1,9 +1,6 @@
-use mathlib.Core.Path.{◌≡◌, refl}
-use Prim.Native.Nat.{◌+◌}
+use mathlib.Core.Path.{refl}
 use native.Mathlib.Omega.{arith}
-use lib.ListN.{length}
-use borrow.Author.Tests.{not-true, not-false}
-use Rattle.repair.specs.Passes.{walk}
+use borrow.Author.Tests.{not-true}
 use Rattle.repair.proofs.Laws.{walk-done, walk-cut, walk-on}
 use borrow.Author.Rules.{rules}
 use Rattle.repair.proofs.keep.Goals as goal

@@ -1,10 +1,7 @@
-use mathlib.Core.Path.{◌≡◌, refl}
+use mathlib.Core.Path.{◌≡◌}
 use Prim.Native.Nat.{◌+◌}
-use native.Mathlib.Omega.{arith}
 use lib.ListN.{length}
-use borrow.Author.Tests.{not-true, not-false}
 use Rattle.repair.specs.Passes.{walk}
-use Rattle.repair.proofs.Laws.{walk-done, walk-cut, walk-on}
 use Rattle.repair.proofs.keep.Given as goal
 
 abbrev pub invariant-loop-left : goal.invariant-loop-left

@@ -1,8 +1,5 @@
-use mathlib.Core.Path.{◌≡◌, refl}
-use Prim.Native.Nat.{◌+◌, ◌*◌, ◌≤◌}
+use mathlib.Core.Path.{refl}
 use native.Mathlib.Omega.{arith}
-use lib.ListN.{length}
-use Rattle.repair.specs.Passes.{no_free, chaining}
 use Rattle.repair.proofs.Laws.{front-room, chaining-first, chaining-none, chaining-more}
 use borrow.Author.Rules.{rules}
 use Rattle.repair.proofs.link_free.Goals as goal

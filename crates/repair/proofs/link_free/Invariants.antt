@@ -1,9 +1,7 @@
-use mathlib.Core.Path.{◌≡◌, refl}
+use mathlib.Core.Path.{◌≡◌}
 use Prim.Native.Nat.{◌+◌, ◌*◌, ◌≤◌}
-use native.Mathlib.Omega.{arith}
 use lib.ListN.{length}
 use Rattle.repair.specs.Passes.{no_free, chaining}
-use Rattle.repair.proofs.Laws.{front-room, chaining-first, chaining-none, chaining-more}
 use Rattle.repair.proofs.link_free.Given as goal
 
 abbrev pub invariant-loop-left : goal.invariant-loop-left

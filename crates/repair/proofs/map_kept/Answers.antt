@@ -1,5 +1,4 @@
 use Rattle.laws.specs.Tests.{tests}
-use borrow.Author.Rules.{rules}
 use Rattle.repair.proofs.map_kept.Goals as goal
 
 pub returns-then-count-size : goal.returns-then-count-size

@@ -1,7 +1,4 @@
-use mathlib.Core.Path.{◌≡◌, refl}
-use lib.ListN.{length}
-use Rattle.rules.specs.Directory.{sectors_from, directory}
-use Rattle.repair.specs.Passes.{with_marks}
+use mathlib.Core.Path.{refl}
 use Rattle.repair.proofs.Laws.{marks-first, marks-none, marks-next, marks-last, marks-astray}
 use borrow.Author.Rules.{rules}
 use Rattle.repair.proofs.mark_directory.Goals as goal

@@ -1,8 +1,7 @@
-use mathlib.Core.Path.{◌≡◌, refl}
+use mathlib.Core.Path.{◌≡◌}
 use lib.ListN.{length}
 use Rattle.rules.specs.Directory.{sectors_from, directory}
 use Rattle.repair.specs.Passes.{with_marks}
-use Rattle.repair.proofs.Laws.{marks-first, marks-none, marks-next, marks-last, marks-astray}
 use Rattle.repair.proofs.mark_directory.Given as goal
 
 abbrev pub invariant-loop-left : goal.invariant-loop-left

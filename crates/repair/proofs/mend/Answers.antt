@@ -1,6 +1,5 @@
 use native.Mathlib.Omega.{arith}
 use Rattle.repair.specs.Whole.{mend-is}
-use borrow.Author.Rules.{rules}
 use Rattle.repair.proofs.mend.Goals as goal
 
 pub returns : goal.returns

@@ -1,6 +1,5 @@
 use borrow.Author.Tests.{not-true, not-false}
 use Rattle.repair.proofs.Laws.{file-dead, file-live}
-use borrow.Author.Rules.{rules}
 use Rattle.repair.proofs.mend_file.Goals as goal
 
 pub returns-then-not-alive : goal.returns-then-not-alive

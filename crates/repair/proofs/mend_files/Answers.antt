@@ -1,7 +1,4 @@
-use mathlib.Core.Path.{◌≡◌, refl}
-use lib.ListN.{length}
-use Rattle.laws.specs.Visits.{most_slots, first_slot}
-use Rattle.repair.specs.Passes.{files_mended}
+use mathlib.Core.Path.{refl}
 use Rattle.repair.proofs.Laws.{files-first, files-none, files-next, files-last, files-broken}
 use borrow.Author.Rules.{rules}
 use Rattle.repair.proofs.mend_files.Goals as goal

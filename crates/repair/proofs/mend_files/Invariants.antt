@@ -1,8 +1,7 @@
-use mathlib.Core.Path.{◌≡◌, refl}
+use mathlib.Core.Path.{◌≡◌}
 use lib.ListN.{length}
 use Rattle.laws.specs.Visits.{most_slots, first_slot}
 use Rattle.repair.specs.Passes.{files_mended}
-use Rattle.repair.proofs.Laws.{files-first, files-none, files-next, files-last, files-broken}
 use Rattle.repair.proofs.mend_files.Given as goal
 
 abbrev pub invariant-loop-left : goal.invariant-loop-left

@@ -1,5 +1,4 @@
 use Rattle.repair.proofs.Laws.{free-mended}
-use borrow.Author.Rules.{rules}
 use Rattle.repair.proofs.mend_free.Goals as goal
 
 pub returns : goal.returns

@@ -1,5 +1,4 @@
 use Rattle.repair.proofs.Laws.{slot-done}
-use borrow.Author.Rules.{rules}
 use Rattle.repair.proofs.mend_slot.Goals as goal
 
 pub returns : goal.returns

@@ -1,6 +1,5 @@
 use native.Mathlib.Omega.{arith}
 use Rattle.repair.proofs.Laws.{address-cast, before-is}
-use borrow.Author.Rules.{rules}
 use Rattle.repair.proofs.put_before.Goals as goal
 
 pub overflow_cast-a : goal.overflow_cast-a

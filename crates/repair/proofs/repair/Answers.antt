@@ -1,6 +1,5 @@
 use borrow.Author.Tests.{not-true, not-false}
 use Rattle.repair.proofs.Laws.{repair-table, repair-open, repair-wrong, repair-right, repair-shape}
-use borrow.Author.Rules.{rules}
 use Rattle.repair.proofs.repair.Goals as goal
 
 pub returns-then-table-ne-TABLE_LENGTH : goal.returns-then-table-ne-TABLE_LENGTH

@@ -1,5 +1,4 @@
 use Rattle.repair.proofs.Laws.{mark-low, mark-data}
-use borrow.Author.Rules.{rules}
 use Rattle.repair.proofs.set_mark.Goals as goal
 
 pub returns-then-k-per : goal.returns-then-k-per

@@ -1,5 +1,4 @@
 use Rattle.laws.specs.Tests.{tests}
-use borrow.Author.Rules.{rules}
 use Rattle.repair.proofs.start_kept.Goals as goal
 
 pub returns-then-count-eq0 : goal.returns-then-count-eq0

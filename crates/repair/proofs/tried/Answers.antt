@@ -1,5 +1,5 @@
 use mathlib.Core.Path.{sym, ◌∙◌}
-use borrow.Author.Tests.{not-true, not-false}
+use borrow.Author.Tests.{not-true}
 use Rattle.repair.proofs.Laws.{tried-wrong, tried-twins, tried-mended}
 use borrow.Author.Rules.{rules}
 use Rattle.repair.proofs.tried.Goals as goal

@@ -1,6 +1,5 @@
 use borrow.Author.Tests.{not-true, not-false}
 use Rattle.slotwalk.proofs.Laws.{enter-dead, enter-free, enter-taken, enter-full}
-use borrow.Author.Rules.{rules}
 use Rattle.slotwalk.proofs.enter.Goals as goal
 
 pub returns-then-not-alive : goal.returns-then-not-alive

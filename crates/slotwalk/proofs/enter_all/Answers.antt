@@ -1,10 +1,6 @@
-use mathlib.Core.Path.{◌≡◌, refl}
-use lib.ListN.{length}
-use Rattle.rules.specs.Directory.{slots}
-use Rattle.laws.specs.Visits.{visits}
-use Rattle.census_laws.specs.Table.{entering, table_kept}
+use mathlib.Core.Path.{refl}
+use Rattle.census_laws.specs.Table.{table_kept}
 use Rattle.slotwalk.proofs.Laws.{enters-first, enters_none, enters-twice, enters-unknown, enters-next, enters-last, enters-broken}
-use borrow.Author.Rules.{rules}
 use Rattle.slotwalk.proofs.enter_all.Goals as goal
 
 pub loop-left-init : goal.loop-left-init

@@ -1,9 +1,8 @@
-use mathlib.Core.Path.{◌≡◌, refl}
+use mathlib.Core.Path.{◌≡◌}
 use lib.ListN.{length}
 use Rattle.rules.specs.Directory.{slots}
 use Rattle.laws.specs.Visits.{visits}
-use Rattle.census_laws.specs.Table.{entering, table_kept}
-use Rattle.slotwalk.proofs.Laws.{enters-first, enters_none, enters-twice, enters-unknown, enters-next, enters-last, enters-broken}
+use Rattle.census_laws.specs.Table.{entering}
 use Rattle.slotwalk.proofs.enter_all.Given as goal
 
 abbrev pub invariant-loop-left : goal.invariant-loop-left

@@ -1,5 +1,4 @@
 use Rattle.slotwalk.proofs.Laws.{place-no, place-some}
-use borrow.Author.Rules.{rules}
 use Rattle.slotwalk.proofs.first_place.Goals as goal
 
 pub returns-then-n-eq0 : goal.returns-then-n-eq0

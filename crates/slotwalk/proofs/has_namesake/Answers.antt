@@ -1,8 +1,5 @@
-use mathlib.Core.Path.{◌≡◌, refl}
-use Rattle.rules.specs.Census.{namesake}
-use Rattle.laws.specs.Visits.{visits}
+use mathlib.Core.Path.{refl}
 use Rattle.slotwalk.proofs.Laws.{namesake-none, namesake-here, namesake-next, namesake-last, namesake-broken}
-use borrow.Author.Rules.{rules}
 use Rattle.slotwalk.proofs.has_namesake.Goals as goal
 
 pub loop-left-init : goal.loop-left-init

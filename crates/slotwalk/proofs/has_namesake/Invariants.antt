@@ -1,7 +1,6 @@
-use mathlib.Core.Path.{◌≡◌, refl}
+use mathlib.Core.Path.{◌≡◌}
 use Rattle.rules.specs.Census.{namesake}
 use Rattle.laws.specs.Visits.{visits}
-use Rattle.slotwalk.proofs.Laws.{namesake-none, namesake-here, namesake-next, namesake-last, namesake-broken}
 use Rattle.slotwalk.proofs.has_namesake.Given as goal
 
 abbrev pub invariant-loop-left : goal.invariant-loop-left

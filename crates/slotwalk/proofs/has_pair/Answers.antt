@@ -1,9 +1,4 @@
-use mathlib.Core.Path.{◌≡◌}
-use Rattle.rules.specs.Directory.{slots}
-use Rattle.rules.specs.Census.{twins}
-use Rattle.laws.specs.Visits.{visits}
 use Rattle.slotwalk.proofs.Laws.{twins-first, twins-none, twins-last, twins-broken, twins-here, twins-next}
-use borrow.Author.Rules.{rules}
 use Rattle.slotwalk.proofs.has_pair.Goals as goal
 
 pub loop-left-init : goal.loop-left-init

@@ -2,7 +2,6 @@ use mathlib.Core.Path.{◌≡◌}
 use Rattle.rules.specs.Directory.{slots}
 use Rattle.rules.specs.Census.{twins}
 use Rattle.laws.specs.Visits.{visits}
-use Rattle.slotwalk.proofs.Laws.{twins-first, twins-none, twins-last, twins-broken, twins-here, twins-next}
 use Rattle.slotwalk.proofs.has_pair.Given as goal
 
 abbrev pub invariant-loop-left : goal.invariant-loop-left

@@ -1,6 +1,5 @@
 use borrow.Author.Tests.{not-true, not-false}
 use Rattle.slotwalk.proofs.Laws.{if-dead, if-live}
-use borrow.Author.Rules.{rules}
 use Rattle.slotwalk.proofs.has_twin.Goals as goal
 
 pub returns-then-not-alive : goal.returns-then-not-alive

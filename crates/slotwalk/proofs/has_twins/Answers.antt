@@ -1,5 +1,4 @@
 use Rattle.census_laws.specs.Table.{seen-once, seen_twice}
-use borrow.Author.Rules.{rules}
 use Rattle.slotwalk.proofs.has_twins.Goals as goal
 
 pub returns-in-Once : goal.returns-in-Once

@@ -1,6 +1,5 @@
 use borrow.Author.Tests.{not-true, not-false}
 use Rattle.laws.specs.Slots.{named-dead, named_live}
-use borrow.Author.Rules.{rules}
 use Rattle.slotwalk.proofs.is_namesake.Goals as goal
 
 pub returns-then-not-alive : goal.returns-then-not-alive

@@ -1,10 +1,6 @@
-use mathlib.Core.Path.{◌≡◌, refl}
-use Prim.Native.Nat.{◌+◌, ◌≤◌}
+use mathlib.Core.Path.{refl}
 use native.Mathlib.Omega.{arith}
-use lib.ListN.{length}
-use Rattle.rules.specs.Directory.{sectors_from, directory}
-use Rattle.census_laws.specs.Walks.{sectors, sectors-first, sectors-end, sectors-next, sectors-last, sectors-astray, sector-many, sector-kept}
-use borrow.Author.Rules.{rules}
+use Rattle.census_laws.specs.Walks.{sectors-first, sectors-end, sectors-next, sectors-last, sectors-astray, sector-many, sector-kept}
 use Rattle.slotwalk.proofs.list_directory.Goals as goal
 
 pub loop-left-init : goal.loop-left-init

@@ -1,9 +1,8 @@
-use mathlib.Core.Path.{◌≡◌, refl}
+use mathlib.Core.Path.{◌≡◌}
 use Prim.Native.Nat.{◌+◌, ◌≤◌}
-use native.Mathlib.Omega.{arith}
 use lib.ListN.{length}
 use Rattle.rules.specs.Directory.{sectors_from, directory}
-use Rattle.census_laws.specs.Walks.{sectors, sectors-first, sectors-end, sectors-next, sectors-last, sectors-astray, sector-many, sector-kept}
+use Rattle.census_laws.specs.Walks.{sectors}
 use Rattle.slotwalk.proofs.list_directory.Given as goal
 
 abbrev pub invariant-loop-left : goal.invariant-loop-left

@@ -1,7 +1,6 @@
 use borrow.Author.Tests.{not-true, not-false}
 use Rattle.census_laws.specs.Walks.{file}
 use Rattle.slotwalk.proofs.Laws.{if-dead, if-live}
-use borrow.Author.Rules.{rules}
 use Rattle.slotwalk.proofs.list_file.Goals as goal
 
 pub returns-then-not-alive : goal.returns-then-not-alive

@@ -1,12 +1,6 @@
-use mathlib.Core.Path.{◌≡◌, refl}
-use Prim.Native.Nat.{◌+◌, ◌*◌, ◌≤◌}
+use mathlib.Core.Path.{refl}
 use native.Mathlib.Omega.{arith}
-use lib.ListN.{length}
-use Rattle.rules.specs.Directory.{slots}
-use Rattle.laws.specs.Visits.{visits}
-use Rattle.census_laws.specs.Walks.{files}
 use Rattle.slotwalk.proofs.Laws.{files-first, files-none, files-wrong, files-next, files-last, files-broken, files-place, files-fit, files-kept}
-use borrow.Author.Rules.{rules}
 use Rattle.slotwalk.proofs.list_files.Goals as goal
 
 pub loop-left-init : goal.loop-left-init

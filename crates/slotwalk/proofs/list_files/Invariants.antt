@@ -1,11 +1,9 @@
-use mathlib.Core.Path.{◌≡◌, refl}
+use mathlib.Core.Path.{◌≡◌}
 use Prim.Native.Nat.{◌+◌, ◌*◌, ◌≤◌}
-use native.Mathlib.Omega.{arith}
 use lib.ListN.{length}
 use Rattle.rules.specs.Directory.{slots}
 use Rattle.laws.specs.Visits.{visits}
 use Rattle.census_laws.specs.Walks.{files}
-use Rattle.slotwalk.proofs.Laws.{files-first, files-none, files-wrong, files-next, files-last, files-broken, files-place, files-fit, files-kept}
 use Rattle.slotwalk.proofs.list_files.Given as goal
 
 abbrev pub invariant-loop-left : goal.invariant-loop-left

@@ -1,5 +1,4 @@
 use Rattle.census_laws.specs.Walks.{sector-passed, sector-listed}
-use borrow.Author.Rules.{rules}
 use Rattle.slotwalk.proofs.list_sector.Goals as goal
 
 pub returns-then-k-per : goal.returns-then-k-per

@@ -1,5 +1,4 @@
 use Rattle.slotwalk.proofs.Laws.{mixed-is}
-use borrow.Author.Rules.{rules}
 use Rattle.slotwalk.proofs.mixed.Goals as goal
 
 pub returns : goal.returns

@@ -1,5 +1,4 @@
 use Rattle.slotwalk.proofs.Laws.{note-large, note-done}
-use borrow.Author.Rules.{rules}
 use Rattle.slotwalk.proofs.note.Goals as goal
 
 pub returns-then-c-ge65535 : goal.returns-then-c-ge65535

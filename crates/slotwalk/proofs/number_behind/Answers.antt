@@ -1,5 +1,4 @@
 use Rattle.census_laws.specs.Numbered.{behind_more, behind-most}
-use borrow.Author.Rules.{rules}
 use Rattle.slotwalk.proofs.number_behind.Goals as goal
 
 pub returns-then-owner-lt65535 : goal.returns-then-owner-lt65535

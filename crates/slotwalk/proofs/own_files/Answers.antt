@@ -1,14 +1,7 @@
-use mathlib.Core.Path.{◌≡◌, refl}
-use Prim.Native.Nat.{◌+◌, ◌*◌, ◌≤◌}
+use mathlib.Core.Path.{refl}
 use native.Mathlib.Omega.{arith}
-use lib.ListN.{length}
-use Rattle.rules.specs.Bytes.{over}
-use Rattle.rules.specs.Directory.{slots}
-use Rattle.census_laws.specs.Numbered.{files_numbered}
-use Rattle.laws.specs.Visits.{visits}
 use Rattle.census_laws.specs.Stored.{over-kept}
 use Rattle.slotwalk.proofs.Laws.{own_first, own-none, own-next, own-last, own-broken}
-use borrow.Author.Rules.{rules}
 use Rattle.slotwalk.proofs.own_files.Goals as goal
 
 pub loop-left-init : goal.loop-left-init

@@ -1,13 +1,10 @@
-use mathlib.Core.Path.{◌≡◌, refl}
+use mathlib.Core.Path.{◌≡◌}
 use Prim.Native.Nat.{◌+◌, ◌*◌, ◌≤◌}
-use native.Mathlib.Omega.{arith}
 use lib.ListN.{length}
 use Rattle.rules.specs.Bytes.{over}
 use Rattle.rules.specs.Directory.{slots}
 use Rattle.census_laws.specs.Numbered.{files_numbered}
 use Rattle.laws.specs.Visits.{visits}
-use Rattle.census_laws.specs.Stored.{over-kept}
-use Rattle.slotwalk.proofs.Laws.{own_first, own-none, own-next, own-last, own-broken}
 use Rattle.slotwalk.proofs.own_files.Given as goal
 
 abbrev pub invariant-loop-left : goal.invariant-loop-left

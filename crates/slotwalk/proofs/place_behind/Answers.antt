@@ -1,5 +1,4 @@
 use Rattle.slotwalk.proofs.Laws.{behind-none, behind-on, behind-round}
-use borrow.Author.Rules.{rules}
 use Rattle.slotwalk.proofs.place_behind.Goals as goal
 
 pub returns-then-n-at : goal.returns-then-n-at

@@ -1,7 +1,4 @@
-use mathlib.Core.Path.{◌≡◌}
-use Rattle.rules.specs.Bytes.{part}
-use Rattle.census_laws.specs.Table.{spot, probe, spot-first, probe-none, probe-free, probe-taken, probe-on}
-use borrow.Author.Rules.{rules}
+use Rattle.census_laws.specs.Table.{spot-first, probe-none, probe-free, probe-taken, probe-on}
 use Rattle.slotwalk.proofs.spot_of.Goals as goal
 
 pub loop-left-init : goal.loop-left-init

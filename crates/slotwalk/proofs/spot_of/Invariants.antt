@@ -1,6 +1,6 @@
 use mathlib.Core.Path.{◌≡◌}
 use Rattle.rules.specs.Bytes.{part}
-use Rattle.census_laws.specs.Table.{spot, probe, spot-first, probe-none, probe-free, probe-taken, probe-on}
+use Rattle.census_laws.specs.Table.{spot, probe}
 use Rattle.slotwalk.proofs.spot_of.Given as goal
 
 abbrev pub invariant-loop-left : goal.invariant-loop-left

@@ -1,5 +1,4 @@
 use Rattle.taking.specs.Take.{block_of}
-use borrow.Author.Rules.{rules}
 use Rattle.taking.proofs.block_of.Goals as goal
 
 pub returns : goal.returns

@@ -1,6 +1,5 @@
 use borrow.Author.Tests.{not-true, not-false}
 use Rattle.taking.proofs.Laws.{fault-empty, fault-bad, fault-none}
-use borrow.Author.Rules.{rules}
 use Rattle.taking.proofs.free_fault.Goals as goal
 
 pub returns-then-free-eq0 : goal.returns-then-free-eq0

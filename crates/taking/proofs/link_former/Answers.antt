@@ -1,4 +1,3 @@
-use borrow.Author.Rules.{rules}
 use Rattle.taking.proofs.link_former.Goals as goal
 
 pub returns : goal.returns

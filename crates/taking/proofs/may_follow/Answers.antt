@@ -1,5 +1,4 @@
 use Rattle.taking.proofs.Laws.{follows-none, follows-data}
-use borrow.Author.Rules.{rules}
 use Rattle.taking.proofs.may_follow.Goals as goal
 
 pub returns-then-position-eq0 : goal.returns-then-position-eq0

@@ -1,5 +1,4 @@
 use Rattle.taking.proofs.Laws.{plan-made}
-use borrow.Author.Rules.{rules}
 use Rattle.taking.proofs.plan_of.Goals as goal
 
 pub returns : goal.returns

@@ -1,5 +1,4 @@
 use Rattle.taking.proofs.Laws.{place-loaded}
-use borrow.Author.Rules.{rules}
 use Rattle.taking.proofs.slot_of.Goals as goal
 
 pub returns : goal.returns

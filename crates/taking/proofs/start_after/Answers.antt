@@ -1,5 +1,4 @@
 use Rattle.taking.proofs.Laws.{picks_first, picks_second}
-use borrow.Author.Rules.{rules}
 use Rattle.taking.proofs.start_after.Goals as goal
 
 pub returns-then-start-eq0 : goal.returns-then-start-eq0

@@ -1,4 +1,3 @@
-use borrow.Author.Rules.{rules}
 use Rattle.taking.proofs.store_new.Goals as goal
 
 pub returns : goal.returns

@@ -1,6 +1,5 @@
 use borrow.Author.Tests.{not-true, not-false}
 use Rattle.taking.proofs.Laws.{by-stray, by-fault, by-full, by-taken}
-use borrow.Author.Rules.{rules}
 use Rattle.taking.proofs.take_by.Goals as goal
 
 pub returns-then-not-plan : goal.returns-then-not-plan

@@ -1,5 +1,4 @@
 use Rattle.taking.proofs.Laws.{image-taken}
-use borrow.Author.Rules.{rules}
 use Rattle.taking.proofs.take_image.Goals as goal
 
 pub returns : goal.returns

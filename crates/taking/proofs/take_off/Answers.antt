@@ -1,5 +1,4 @@
 use Rattle.taking.proofs.Laws.{off-last, off_next}
-use borrow.Author.Rules.{rules}
 use Rattle.taking.proofs.take_off.Goals as goal
 
 pub returns-then-free-eq1 : goal.returns-then-free-eq1

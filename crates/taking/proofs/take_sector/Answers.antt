@@ -1,5 +1,4 @@
 use Rattle.taking.proofs.Laws.{taken_at, taken-missing, taken-broken}
-use borrow.Author.Rules.{rules}
 use Rattle.taking.proofs.take_sector.Goals as goal
 
 pub returns-in-At : goal.returns-in-At

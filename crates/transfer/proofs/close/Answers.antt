@@ -1,5 +1,4 @@
 use Rattle.transfer.proofs.Laws.{closes-writing, closes-other}
-use borrow.Author.Rules.{rules}
 use Rattle.transfer.proofs.close.Goals as goal
 
 pub returns-then-activity-eq2 : goal.returns-then-activity-eq2

@@ -1,5 +1,4 @@
 use Rattle.transfer.proofs.Laws.{empty-at, empty-missing, empty-broken}
-use borrow.Author.Rules.{rules}
 use Rattle.transfer.proofs.close_empty.Goals as goal
 
 pub returns-in-At : goal.returns-in-At

@@ -1,6 +1,5 @@
 use borrow.Author.Tests.{not-true, not-false}
 use Rattle.transfer.proofs.Laws.{partial-bad, partial-done}
-use borrow.Author.Rules.{rules}
 use Rattle.transfer.proofs.close_partial.Goals as goal
 
 pub returns-then-not-right : goal.returns-then-not-right

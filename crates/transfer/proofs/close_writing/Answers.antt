@@ -1,5 +1,4 @@
 use Rattle.transfer.proofs.Laws.{closes-empty, closes-full, closes-partial}
-use borrow.Author.Rules.{rules}
 use Rattle.transfer.proofs.close_writing.Goals as goal
 
 pub returns-then-a-eq0 : goal.returns-then-a-eq0

@@ -1,5 +1,4 @@
 use Rattle.rules.specs.Transfer.{load_puts}
-use borrow.Author.Rules.{rules}
 use Rattle.transfer.proofs.load_table.Goals as goal
 
 pub returns : goal.returns

@@ -1,5 +1,4 @@
 use Rattle.rules.specs.Transfer.{mark}
-use borrow.Author.Rules.{rules}
 use Rattle.transfer.proofs.mark_slot.Goals as goal
 
 pub returns : goal.returns

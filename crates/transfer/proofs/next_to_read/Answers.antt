@@ -1,5 +1,4 @@
 use Rattle.transfer.proofs.Laws.{next_start, next-link}
-use borrow.Author.Rules.{rules}
 use Rattle.transfer.proofs.next_to_read.Goals as goal
 
 pub returns-then-position-eq0 : goal.returns-then-position-eq0

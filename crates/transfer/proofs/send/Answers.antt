@@ -1,5 +1,4 @@
 use Rattle.rules.specs.Transfer.{sent}
-use borrow.Author.Rules.{rules}
 use Rattle.transfer.proofs.send.Goals as goal
 
 pub returns : goal.returns

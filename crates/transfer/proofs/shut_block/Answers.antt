@@ -1,5 +1,4 @@
 use Rattle.rules.specs.Transfer.{shut}
-use borrow.Author.Rules.{rules}
 use Rattle.transfer.proofs.shut_block.Goals as goal
 
 pub returns : goal.returns

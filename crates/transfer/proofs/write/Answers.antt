@@ -1,5 +1,4 @@
 use Rattle.transfer.proofs.Laws.{write-takes, write-fills, write-on}
-use borrow.Author.Rules.{rules}
 use Rattle.transfer.proofs.write.Goals as goal
 
 pub returns-then-index-eq0 : goal.returns-then-index-eq0

@@ -1,5 +1,4 @@
 use Rattle.transfer.proofs.Laws.{first-refused, first_done}
-use borrow.Author.Rules.{rules}
 use Rattle.transfer.proofs.write_first.Goals as goal
 
 pub returns-then-e-eq0 : goal.returns-then-e-eq0

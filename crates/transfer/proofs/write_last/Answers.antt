@@ -1,6 +1,5 @@
 use borrow.Author.Tests.{not-true, not-false}
 use Rattle.transfer.proofs.Laws.{fill-bad, fill_done}
-use borrow.Author.Rules.{rules}
 use Rattle.transfer.proofs.write_last.Goals as goal
 
 pub returns-then-not-right : goal.returns-then-not-right

@@ -1,6 +1,5 @@
 use Rattle.laws.specs.Tests.{tests}
 use Rattle.rules.specs.Bytes.{within}
-use borrow.Author.Rules.{rules}
 use Rattle.fms.proofs.codes.is_file.Goals as goal
 
 pub returns-then-act-lt1 : goal.returns-then-act-lt1

@@ -1,6 +1,5 @@
 use Rattle.laws.specs.Tests.{tests}
 use Rattle.rules.specs.Block.{idle}
-use borrow.Author.Rules.{rules}
 use Rattle.fms.proofs.codes.is_idle.Goals as goal
 
 pub returns-then-act-eq0 : goal.returns-then-act-eq0

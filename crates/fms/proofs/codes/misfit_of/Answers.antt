@@ -1,6 +1,5 @@
 use Rattle.laws.specs.Tests.{tests}
 use Rattle.rules.specs.Call.{misfit}
-use borrow.Author.Rules.{rules}
 use Rattle.fms.proofs.codes.misfit_of.Goals as goal
 
 pub returns-then-act-eq0 : goal.returns-then-act-eq0

@@ -1,5 +1,4 @@
 use Rattle.fms.proofs.Activities.{fits-0, fits-4-file, fits-4-other, fits-5, fits-7, fits_8, fits-other}
-use borrow.Author.Rules.{rules}
 use Rattle.fms.proofs.codes.takes.Goals as goal
 
 pub returns-then-is_file : goal.returns-then-is_file
