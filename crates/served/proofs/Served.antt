@@ -1,20 +1,15 @@
 -- THE THEOREM: the promises give the service. The census's promise, then all seven; the others by themselves are in specs/Served.
-use Rattle.std.specs.Prelude.{◌≡◌, refl, Bool, true, false, List, ℕ, ◌*◌, length, eqb}
-use Rattle.std.proofs.Common.{ap, ap₂, ◌∙◌, arith, eqb-true, eq-eqb, ne_eqb}
-use Rattle.std.proofs.lemmas.Bool.{eqb-false}
-use Rattle.rules.specs.Bytes.{pick}
+use Rattle.std.specs.Prelude.{◌≡◌, List, ℕ, length, eqb}
+use Rattle.std.proofs.Common.{ap, ap₂, ◌∙◌, eqb-true}
 use Rattle.rules.specs.Image.{shape_right, last_track, per_track}
-use Rattle.rules.specs.Outcome.{out, told}
-use Rattle.rules.specs.Census.{Survey, survey, listed, owners, fault, concluded, census}
+use Rattle.rules.specs.Census.{survey, listed, owners, concluded, census}
 use Rattle.rules.specs.Host.{as_bytes, host_concluded, host_census}
-use Rattle.laws.specs.Facts.{Given}
 use Rattle.laws.specs.Addresses.{Shaped, shape_is}
-use Rattle.laws.proofs.Effects.{call-lawful}
 use Rattle.laws.specs.Surveys.{data_sectors, fault-is, length-bytes}
-use Rattle.flex.specs.Promised.{PresetPromise, ExtensionPromise, CallPromise, CensusPromise}
+use Rattle.flex.specs.Promised.{CensusPromise}
 use Rattle.demands.specs.Service.{flex}
-use Rattle.served.specs.Entries.{Held, Output, words, apart, read_back, Served}
-use Rattle.served.specs.Words.{unpacked, words_back, words-full, small_bytes}
+use Rattle.served.specs.Entries.{Held, Output, read_back, Served}
+use Rattle.served.specs.Words.{words_back, words-full, small_bytes}
 use Rattle.served.specs.Numbers.{listed-fit, owners-fit}
 use Rattle.served.specs.Served.{back_of, call-served, eqb-twice, extension-served, fault_of, pick-both, preset-served}
 

@@ -1,11 +1,8 @@
 -- No two lists of numbers have the same bytes.
-use Rattle.std.specs.Prelude.{◌≡◌, refl, List, [], ◌∷◌, ◌++◌, ℕ, zero, suc, ◌+◌, ◌*◌, ◌/◌, ◌%◌, ◌<◌, length, replicate}
-use Rattle.std.proofs.Common.{sym, ap, ap₂, ◌∙◌, arith}
-use Rattle.rules.specs.Bytes.{two}
-use Rattle.rules.specs.Host.{packed, as_bytes}
-use Rattle.laws.specs.Bytes.{two_back}
+use Rattle.std.specs.Prelude.{◌≡◌, List, ℕ, ◌<◌}
+use Rattle.std.proofs.Common.{sym, ap, ◌∙◌}
+use Rattle.rules.specs.Host.{as_bytes}
 use Rattle.laws.specs.Each.{Each}
-use Rattle.laws.specs.Small.{Small, small-nil, small-append, small-two}
 use Rattle.served.specs.Entries.{words}
 use Rattle.served.specs.Words.{words_back}
 

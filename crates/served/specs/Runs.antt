@@ -21,7 +21,7 @@ use Rattle.mending.specs.Accepted.{mended-left}
 use Rattle.mending.specs.Repairs.{Answered, repair-is}
 use Rattle.demands.specs.Ledger.{Call, setting, extending, asking}
 use Rattle.demands.specs.Service.{Wanted, Service, flex, img_of, tab_of, ans_of, byte_of, Machine, Entry, outcome, next, entry, run, log}
-use Rattle.served.specs.Entries.{limit, Held, Askable, Entries, Kept, service_of, Same}
+use Rattle.served.specs.Entries.{limit, Held, Askable, Same}
 
 -- a call that a host can make
 abbrev pub Made : Call → Type 0

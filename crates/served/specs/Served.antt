@@ -1,21 +1,17 @@
 -- THE THEOREM: the promises give the service. Each promise by itself first, then all seven.
-use Rattle.std.specs.Prelude.{◌≡◌, refl, Bool, true, false, List, ℕ, ◌*◌, length, eqb}
-use Rattle.std.proofs.Common.{ap, ap₂, ◌∙◌, arith, eqb-true, eq-eqb, ne_eqb}
+use Rattle.std.specs.Prelude.{◌≡◌, refl, Bool, true, false, List, ℕ, ◌*◌, eqb}
+use Rattle.std.proofs.Common.{ap₂, arith, eqb-true, eq-eqb, ne_eqb}
 use Rattle.std.proofs.lemmas.Bool.{eqb-false}
 use Rattle.rules.specs.Bytes.{pick}
-use Rattle.rules.specs.Image.{shape_right, last_track, per_track}
+use Rattle.rules.specs.Image.{last_track, per_track}
 use Rattle.rules.specs.Outcome.{out, told}
-use Rattle.rules.specs.Census.{Survey, survey, listed, owners, fault, concluded, census}
-use Rattle.rules.specs.Host.{as_bytes, host_concluded, host_census}
+use Rattle.rules.specs.Census.{Survey, survey, fault}
 use Rattle.laws.specs.Facts.{Given}
-use Rattle.laws.specs.Addresses.{Shaped, shape_is}
 use Rattle.laws.proofs.Effects.{call-lawful}
-use Rattle.laws.specs.Surveys.{data_sectors, fault-is, length-bytes}
-use Rattle.flex.specs.Promised.{PresetPromise, ExtensionPromise, CallPromise, CensusPromise}
+use Rattle.flex.specs.Promised.{PresetPromise, ExtensionPromise, CallPromise}
 use Rattle.demands.specs.Service.{flex}
-use Rattle.served.specs.Entries.{Held, Output, words, apart, read_back, Served}
-use Rattle.served.specs.Words.{unpacked, words_back, words-full, small_bytes}
-use Rattle.served.specs.Numbers.{listed-fit, owners-fit}
+use Rattle.served.specs.Entries.{words, apart}
+use Rattle.served.specs.Words.{unpacked}
 
 -- ---- preset, default extension
 

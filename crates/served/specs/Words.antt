@@ -1,6 +1,6 @@
 -- Numbers as bytes, two each, and read back.
 use Rattle.std.specs.Prelude.{◌≡◌, refl, List, [], ◌∷◌, ◌++◌, ℕ, zero, suc, ◌+◌, ◌*◌, ◌/◌, ◌%◌, ◌<◌, length, replicate}
-use Rattle.std.proofs.Common.{sym, ap, ap₂, ◌∙◌, arith}
+use Rattle.std.proofs.Common.{ap, ap₂, ◌∙◌, arith}
 use Rattle.rules.specs.Bytes.{two}
 use Rattle.rules.specs.Host.{packed, as_bytes}
 use Rattle.laws.specs.Bytes.{two_back}
