@@ -1,5 +1,5 @@
 -- WHAT IS PROVED OF libflex.a, in one theorem. Given are seven functions that keep the promises of the exported entries, as the code does by its contracts
--- (served, Code). From a start, after any calls, and any formats and repairs that are accepted with all blocks closed: answers, image, table and files are
+-- (served, Codes). From a start, after any calls, and any formats and repairs that are accepted with all blocks closed: answers, image, table and files are
 -- what the history of accepted calls says, and every data sector is in one place; after a raw write (8, 10) again from the next format or repair, or from
 -- where the census accepts with all blocks closed.
 use Rattle.std.specs.Prelude.{◌≡◌, refl, ℕ, zero, suc, ◌*◌, ◌≤◌, ◌<◌, length}
