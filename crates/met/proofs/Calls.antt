@@ -12,8 +12,7 @@ use Rattle.rules.specs.Outcome.{Outcome, Effect, on_image, on_block}
 use Rattle.rules.specs.Block.{idle, activity_in, presettable, preset_in, preset, extensions, extension_in, extension}
 use Rattle.rules.specs.Transfer.{transfer, close}
 use Rattle.rules.specs.Call.{served, fits, misfit, checked, perform, asked, call}
-use Rattle.laws.specs.Tests.{pick-cases}
-use Rattle.laws.specs.Tests.{within-is}
+use Rattle.laws.specs.Tests.{pick-cases, within-is}
 use Rattle.laws.specs.Addresses.{Shape}
 use Rattle.chains.specs.Addresses.{shape-right, absurd-bool}
 use Rattle.laws.specs.Stores.{puts-off}

@@ -1,16 +1,21 @@
--- Theorems on the definitions of specs/.
-pub mod Runs
-pub mod Mends
-pub mod Forget
+-- That our service meets the three demands, on what stands in specs/. Every call meets its fate
+pub mod Takes
 pub mod Calls
+-- lists of calls
+pub mod Runs
+pub mod Rests
 pub mod Sent
 pub mod Got
-pub mod Rests
 pub mod Stays
-pub mod Third
-pub mod Ours
-pub mod Sequences
-pub mod First
-pub mod Second
-pub mod Takes
+-- demand 1: what a call may touch, on any bytes; repair
 pub mod Bounds
+pub mod Mends
+pub mod First
+-- demands 2 and 3
+pub mod Second
+pub mod Third
+-- any sequence of calls, formats and repairs; demand 1 is enough
+pub mod Sequences
+pub mod Ours
+-- what is shown and predicted knows no sectors
+pub mod Forget

@@ -1,4 +1,4 @@
--- That our service meets the three demands. Demand 1: what a call may touch, on any bytes; blank diskettes; repair
+-- That our service meets the three demands; the theorems stand in proofs/. Demand 1: what a call may touch, on any bytes; blank diskettes
 pub mod Bounds
 pub mod Tames
 pub mod Blanks
@@ -27,8 +27,5 @@ pub mod Tidy
 pub mod Changes
 pub mod Survey
 pub mod Forms
--- demands 2 and 3
+-- demand 2
 pub mod Second
-
--- any sequence of calls, formats and repairs; demand 1 is enough
--- what is shown and predicted knows no sectors
