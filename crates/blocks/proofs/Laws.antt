@@ -1,101 +1,131 @@
 -- Laws that the proofs of this crate cite: what each way out of a function comes to.
 use mathlib.Core.Path.{◌≡◌, refl, sym, ap, ◌∙◌}
-use mathlib.Core.Bool.{Bool, true, false}
+use mathlib.Core.Bool.{Bool, true, false, ◌&&◌}
 use mathlib.Core.Logic.{◌⊎◌, inl, inr}
 use mathlib.Core.List.{List, []}
-use Prim.Native.Nat.{ℕ, zero, suc, ◌+◌, ◌-◌, ◌*◌, ◌/◌, ◌%◌, ◌≤◌, ◌<◌}
+use Prim.Native.Nat.{ℕ, zero, suc, ◌+◌, ◌*◌, ◌/◌, ◌%◌, ◌≤◌, ◌<◌}
+use native.Mathlib.Numerals.{add-one}
 use native.Mathlib.Omega.{arith}
+use Rattle.std.proofs.Math.Decide.{dec_lt}
 use mir.Syntax.{w16, w64}
 use mir.Val.{Fits}
 use lib.Dec.{eqb, leb}
 use lib.ListN.{length, get_or}
 use borrow.Author.Tests.{eq-eqb, ne_eqb, le-leb, lt-leb, lt-ltb, le-ltb}
+use Rattle.std.specs.Prelude.{◌≢◌, Option, Some, None, Result, Ok, Err, slice_get}
+use Rattle.std.proofs.lemmas.Option.{slice_get-get_or, slice_get_within, get_or_from_slice_get}
 use Rattle.laws.specs.Tests.{pick_all}
 use Rattle.laws.specs.Effects.{presettable-is}
 use Rattle.rules.specs.Bytes.{pick, within, part, over, one, two, same}
 use Rattle.rules.specs.Image.{address_of}
 use Rattle.rules.specs.Directory.{place_of}
+use Rattle.rules.specs.declared.refusal.Refusal.{Refusal}
 use Rattle.rules.specs.Outcome.{Effect, Out, out, left}
 use Rattle.rules.specs.Block.{activity_in, counts, uses, used_below, idle, on_table, presettable, preset_in, extensions, extension_in}
-
--- ---- which activities count
-
-pub counts-writer : (readers : Bool) (act : ℕ) → act ≡ 2 → true ≡ counts readers act
-unfolding counts
-counts-writer readers act h = rw (eq-eqb act 2 h) refl
-
-pub counts-reader : (act : ℕ) {readers r : Bool} → (act ≡ 2 → ⊥) → readers ≡ true → r ≡ eqb act 1 → r ≡ counts readers act
-unfolding counts
-counts-reader act h k e = rw (ne_eqb act 2 h, k) e
-
-pub counts-other : (act : ℕ) {readers : Bool} → (act ≡ 2 → ⊥) → readers ≡ false → false ≡ counts readers act
-unfolding counts
-counts-other act h k = rw (ne_eqb act 2 h, k) refl
-
--- ---- a place compared with a slot's: its three bytes
+use Rattle.blocks.specs.declared.activity.Activity.{Activity}
+use Rattle.blocks.specs.declared.activity.Activity.TheVariants.{Closed, Reading, Writing, Directory}
+use Rattle.blocks.specs.Activities.{activity_byte, byte-is, no-byte, Decodes}
 
 same-pick : (b : Bool) → b ≡ pick b true false
 same-pick true = refl
 same-pick false = refl
 
-module _ (tab : List ℕ) (S at slot : ℕ) {a t s d : ℕ} (w : a ≡ address_of S (slot / 256)) (p : t ≡ get_or tab at 0) (q : s ≡ get_or tab (at + 1) 0) (o : d ≡ get_or tab (at + 1 + 1) 0) where
-  here : {v : Bool} → v ≡ pick (eqb t (a / 256 % 256)) (pick (eqb s (a % 256)) (pick (eqb d (slot % 256)) true false) false) false → v ≡ same (part tab at 3) (place_of S slot)
-  unfolding part same place_of two one
-  here h = rw (← p, ← q, ← o, ← w) h
+none-pick : (b : Bool) → false ≡ pick b false false
+none-pick true = refl
+none-pick false = refl
 
-  pub place-track : (t ≡ a / 256 % 256 → ⊥) → false ≡ same (part tab at 3) (place_of S slot)
-  place-track h = here (rw (ne_eqb t (a / 256 % 256) h) refl)
+-- ---- which activities count, which are idle
 
-  pub place-sector : t ≡ a / 256 % 256 → (s ≡ a % 256 → ⊥) → false ≡ same (part tab at 3) (place_of S slot)
-  place-sector e h = here (rw (eq-eqb t (a / 256 % 256) e, ne_eqb s (a % 256) h) refl)
+module _ (readers : Bool) {a : Activity} where
+  pub counts-writer : a ≡ Writing → true ≡ counts readers (activity_byte a)
+  unfolding counts
+  counts-writer h = rw h refl
 
-  pub place-last : {r : Bool} → t ≡ a / 256 % 256 → s ≡ a % 256 → r ≡ eqb d (slot % 256) → r ≡ same (part tab at 3) (place_of S slot)
-  place-last {r} e h k = here (rw (eq-eqb t (a / 256 % 256) e, eq-eqb s (a % 256) h, ← k) (same-pick r))
+  pub counts-reader : a ≡ Reading → readers ≡ counts readers (activity_byte a)
+  unfolding counts
+  counts-reader h = rw h (same-pick readers)
+
+  pub counts-other : (a ≡ Closed) ⊎ (a ≡ Directory) → false ≡ counts readers (activity_byte a)
+  unfolding counts
+  counts-other (inl h) = rw h (none-pick readers)
+  counts-other (inr h) = rw h (none-pick readers)
+
+counts-none : (readers : Bool) {byte : ℕ} → ((a : Activity) → activity_byte a ≢ byte) → false ≡ counts readers byte
+unfolding counts
+counts-none readers {byte} z = rw (ne_eqb byte 2 (λ k. z Writing (sym k)), ne_eqb byte 1 (λ k. z Reading (sym k))) (none-pick readers)
+
+pub is-idle : {a : Activity} → (a ≡ Closed) ⊎ (a ≡ Directory) → true ≡ idle (activity_byte a)
+unfolding idle
+is-idle (inl h) = rw h refl
+is-idle (inr h) = rw h refl
+
+pub not-idle : {a : Activity} → (a ≡ Closed → ⊥) → (a ≡ Directory → ⊥) → false ≡ idle (activity_byte a)
+unfolding idle
+not-idle {a = Closed} h k = absurd (h refl)
+not-idle {a = Reading} h k = refl
+not-idle {a = Writing} h k = refl
+not-idle {a = Directory} h k = absurd (k refl)
+
+-- ---- a place compared with a slot's: its three bytes
+three-same : (a b c : Bool) → (a && (b && (c && true))) ≡ pick a (pick b (pick c true false) false) false
+three-same false b c = refl
+three-same true false c = refl
+three-same true true false = refl
+three-same true true true = refl
+
+two-on : (n : ℕ) → n + 2 ≡ n + 1 + 1
+two-on n = omega arith
+
+pub place-is : (tab : List ℕ) (S at slot : ℕ)
+    → (eqb (get_or tab at 0) (address_of S (slot / 256) / 256 % 256) && (eqb (get_or tab (at + 1) 0) (address_of S (slot / 256) % 256) && (eqb (get_or tab (at + 2) 0) (slot % 256) && true)))
+    ≡ same (part tab at 3) (place_of S slot)
+unfolding part same place_of two one
+place-is tab S at slot =
+    rw (two-on at) (three-same (eqb (get_or tab at 0) (address_of S (slot / 256) / 256 % 256)) (eqb (get_or tab (at + 1) 0) (address_of S (slot / 256) % 256))
+    (eqb (get_or tab (at + 1 + 1) 0) (slot % 256)))
 
 -- ---- a block that uses a place
 
-module _ (readers : Bool) (tab place : List ℕ) (n : ℕ) {a : ℕ} {r : Bool} (p : a ≡ get_or tab (320 * n + 2) 0) (q : r ≡ counts readers a) where
-  pub uses-not : r ≡ false → false ≡ uses readers tab place n
+module _ (readers : Bool) (tab place : List ℕ) (n : ℕ) {x : Result Activity Refusal} (p : Decodes (get_or tab (320 * n + 2) 0) x) where
+  module _ {a : Activity} {r : Bool} (e : x ≡ Ok a) (q : r ≡ counts readers (activity_byte a)) where
+    pub uses-not : r ≡ false → r ≡ uses readers tab place n
+    unfolding uses
+    uses-not k = rw (← byte-is _ p e, ← q, k) refl
+
+    pub uses-same : {o : Bool} → r ≡ true → o ≡ same (part tab (320 * n + 47) 3) place → o ≡ uses readers tab place n
+    unfolding uses
+    uses-same k d = rw (← byte-is _ p e, ← q, k) d
+
+  pub uses-none : {y : Refusal} → x ≡ Err y → false ≡ uses readers tab place n
   unfolding uses
-  uses-not k = rw (← p, ← q, k) refl
+  uses-none e = rw (← counts-none readers (no-byte _ p e).1) refl
 
-  pub uses-same : {o : Bool} → r ≡ true → o ≡ same (part tab (320 * n + 47) 3) place → o ≡ uses readers tab place n
-  unfolding uses
-  uses-same k e = rw (← p, ← q, k) e
+-- ---- the eight blocks: does one below m, or n itself, use the place?
 
--- ---- the eight blocks, from the last down
+module _ (readers : Bool) (tab place : List ℕ) where
+  pub used-here : (n m : ℕ) {r : Bool} → r ≡ uses readers tab place n → r ≡ true → n < m → true ≡ used_below readers tab place m
+  unfolding used_below
+  used-here n zero e k h = absurd (omega arith)
+  used-here n (suc m) e k h = go (uses readers tab place m) refl (dec_lt n m) (used-here n m e k)
+    where
+      go : (b : Bool) → uses readers tab place m ≡ b → Dec (n < m) → (n < m → true ≡ used_below readers tab place m) → true ≡ pick b true (used_below readers tab place m)
+      go true q d f = refl
+      go false q (yes d) f = f d
+      go false q (no d) f = let s : n ≡ m = omega arith in let z : true ≡ false = sym k ∙ e ∙ ap (uses readers tab place) s ∙ q in cc
 
-used-more : (readers : Bool) (tab place : List ℕ) (n : ℕ) → 0 < n
-    → used_below readers tab place n ≡ pick (uses readers tab place (n - 1)) true (used_below readers tab place (n - 1))
-unfolding used_below
-used-more readers tab place zero h = absurd (omega arith)
-used-more readers tab place (suc n) h =
-    let e : n ≡ suc n - 1 = omega arith in
-    ap (λ (m : ℕ). pick (uses readers tab place m) true (used_below readers tab place m)) e
-
-module _ (readers : Bool) (tab place : List ℕ) (n : ℕ) {w r : Bool} (v : w ≡ used_below readers tab place n) (h : 0 < n) (e : r ≡ uses readers tab place (n - 1)) where
-  pub used-here : r ≡ true → true ≡ w
-  used-here k = rw (v, used-more readers tab place n h, ← e, k) refl
-
-  pub used-on : r ≡ false → w ≡ used_below readers tab place (n - 1)
-  used-on k = rw (v, used-more readers tab place n h, ← e, k) refl
-
-pub used-none : (readers : Bool) (tab place : List ℕ) (n : ℕ) {w : Bool} → w ≡ used_below readers tab place n → n ≤ 0 → false ≡ w
-unfolding used_below
-used-none readers tab place zero v h = rw v refl
-used-none readers tab place (suc n) v h = absurd (omega arith)
+  pub used_on : (n : ℕ) {r : Bool} → false ≡ used_below readers tab place n → r ≡ uses readers tab place n → r ≡ false → false ≡ used_below readers tab place (n + 1)
+  unfolding used_below
+  used_on n v e k = rw (add-one n, ← e, k) v
 
 -- ---- preset
 
-module _ {a : ℕ} (act : ℕ) (p : a ≡ act) where
-  pub idle-yes : (a ≡ 0) ⊎ (a ≡ 16) → true ≡ idle act
-  unfolding idle
-  idle-yes (inl e) = rw (← p, e) refl
-  idle-yes (inr e) = rw (← p, e) refl
+module _ (tab : List ℕ) (f : ℕ) {x : Result Activity Refusal} (p : Decodes (activity_in tab f) x) where
+  pub idle-ok : {a : Activity} {r : Bool} → x ≡ Ok a → r ≡ idle (activity_byte a) → r ≡ idle (activity_in tab f)
+  idle-ok e q = rw (← byte-is _ p e) q
 
-  pub idle-no : ((a ≡ 0) ⊎ (a ≡ 16) → ⊥) → false ≡ idle act
+  pub idle-none : {y : Refusal} → x ≡ Err y → false ≡ idle (activity_in tab f)
   unfolding idle
-  idle-no h = rw (← p, ne_eqb a 0 (λ e. h (inl e)), ne_eqb a 16 (λ e. h (inr e))) refl
+  idle-none e = let z = no-byte _ p e in rw (ne_eqb _ 0 (λ k. z.1 Closed (sym k)), ne_eqb _ 16 (λ k. z.1 Directory (sym k))) refl
 
 -- the offsets: the three runs that may be preset, and the four gaps around them
 module _ (lo hi i : ℕ) where
@@ -166,6 +196,10 @@ module _ (tab : List ℕ) (f i v : ℕ) where
 
 -- ---- default extension
 
+twelve : length extensions ≡ 12
+unfolding extensions
+twelve = refl
+
 module _ (tab : List ℕ) (f code : ℕ) {o : Bool} (e : o ≡ idle (activity_in tab f)) where
   pub extension-busy : o ≡ false → out 0 0 [] tab ≡ left [] tab f (extension_in tab f code)
   unfolding extension_in
@@ -176,13 +210,21 @@ module _ (tab : List ℕ) (f code : ℕ) {o : Bool} (e : o ≡ idle (activity_in
     unfolding extension_in
     extension-there n = rw (← e, l, ← q, ne_eqb b 0 n) refl
 
-    pub extension-no-code : b ≡ 0 → 12 ≤ code → out 0 0 [] tab ≡ left [] tab f (extension_in tab f code)
-    unfolding extension_in
-    extension-no-code n h = rw (← e, l, ← q, eq-eqb b 0 n, le-ltb code 12 h) refl
+    module _ (n : b ≡ 0) {x : Option (List ℕ)} (k : x ≡ slice_get extensions code) where
+      pub extension-no-code : x ≡ None → out 0 0 [] tab ≡ left [] tab f (extension_in tab f code)
+      unfolding extension_in
+      extension-no-code h = go (dec_lt code 12)
+        where
+          go : Dec (code < 12) → out 0 0 [] tab ≡ left [] tab f (extension_in tab f code)
+          go (yes u) = let z : None ≡ Some (get_or extensions code []) = sym h ∙ k ∙ slice_get-get_or extensions code [] (omega (arith, twelve)) in cc
+          go (no u) = rw (← e, l, ← q, eq-eqb b 0 n, le-ltb code 12 (omega arith)) refl
 
-    pub extension-set : {x tab' : List ℕ} → b ≡ 0 → code < 12 → x ≡ get_or extensions code [] → tab' ≡ over tab (f + 12) x → out 0 0 [] tab' ≡ left [] tab f (extension_in tab f code)
-    unfolding extension_in
-    extension-set n h k d = rw (← e, l, ← q, eq-eqb b 0 n, lt-ltb code 12 h, ← k, d) refl
+      pub extension-set : {y tab' : List ℕ} → x ≡ Some y → tab' ≡ over tab (f + 12) y → out 0 0 [] tab' ≡ left [] tab f (extension_in tab f code)
+      unfolding extension_in
+      extension-set {y} h d =
+          let g : slice_get extensions code ≡ Some y = sym k ∙ h in
+          let u : code < 12 = omega (arith, twelve, slice_get_within extensions code y g) in
+          rw (← e, l, ← q, eq-eqb b 0 n, lt-ltb code 12 u, get_or_from_slice_get extensions code y [] g, d) refl
 
 -- ---- the table and the number
 

@@ -1,2 +1,3 @@
--- What is proved of the promises of this crate's public functions.
+-- What the contracts of this crate cite, and what is proved of the promises of its public functions.
+pub mod Activities
 pub mod Promises

@@ -1,81 +1,15 @@
-// Commands to the service.
-use crate::line::{behind, byte, find, name_byte, number};
-use crate::say;
+// Commands to the service, on the parts of the buffers that are lent.
+use crate::line::Line;
 use crate::say::Run;
+use format::Volume;
+use rules::refusal::Refusal;
 use std::io;
 
-// The eleven bytes of a name preset from an offset on.
-pub(crate) fn name(rt: &impl Print, table: &mut [u8], line: &[u8], offset: u8) -> io::Result<()> {
-    let fcb = number(line, 0) as usize;
-    let word = behind(line, 0, b' ');
-    let from = behind(line, word, b' ');
-    let dot = find(line, from, b'.');
-    let mut answer = 0;
-    let mut i = 0;
-    while i < 11 {
-        answer = blocks::preset(
-            table,
-            fcb,
-            offset as usize + i,
-            name_byte(line, from, dot, i),
-        );
-        i += 1;
-    }
-    say::answer(rt, answer)
-}
-
-pub(crate) fn preset(rt: &impl Print, table: &mut [u8], line: &[u8]) -> io::Result<()> {
-    let fcb = number(line, 0) as usize;
-    let offset = number(line, 1) as usize;
-    let answer = blocks::preset(table, fcb, offset, byte(line, 2));
-    say::answer(rt, answer)
-}
-
-pub(crate) fn extension(rt: &impl Print, table: &mut [u8], line: &[u8]) -> io::Result<()> {
-    let fcb = number(line, 0) as usize;
-    let code = number(line, 1) as usize;
-    let answer = blocks::default_extension(table, fcb, code);
-    say::answer(rt, answer)
-}
-
-// The function that is called next.
-pub(crate) fn function(table: &mut [u8], line: &[u8], code: u8) {
-    blocks::preset(table, number(line, 0) as usize, 0, code);
-}
-
-// A function's name.
-fn say_function(rt: &impl Print, code: u8) -> io::Result<()> {
-    match code {
-        0 => say::text(rt, b"next byte"),
-        1 => say::text(rt, b"open read"),
-        2 => say::text(rt, b"open write"),
-        4 => say::text(rt, b"close"),
-        5 => say::text(rt, b"rewind"),
-        6 => say::text(rt, b"open directory"),
-        7 => say::text(rt, b"next slot"),
-        8 => say::text(rt, b"put slot"),
-        9 => say::text(rt, b"read sector"),
-        10 => say::text(rt, b"write sector"),
-        12 => say::text(rt, b"delete"),
-        13 => say::text(rt, b"rename"),
-        _ => say::text(rt, b"not served"),
-    }
-}
-
-pub(crate) fn call(
-    rt: &impl Print,
-    image: &mut [u8],
-    table: &mut [u8],
-    line: &[u8],
-) -> io::Result<()> {
-    let fcb = number(line, 0) as usize;
-    let reply = fms::call(image, table, fcb, byte(line, 2));
-    say::text(rt, b" -> ")?;
-    say_function(rt, byte(line, 1))?;
-    say::text(rt, b": ")?;
-    say::number(rt, reply.answer as usize)?;
-    say::text(rt, b" byte ")?;
-    say::number(rt, reply.byte as usize)
+// What is lent of the image and of the table.
+#[derive(Drop)]
+pub(crate) struct Lent<'a> {
+    pub(crate) image: &'a mut [u8],
+    pub(crate) table: &'a mut [u8],
 }
 
 // How many calls were accepted, and the last answer.
@@ -85,131 +19,153 @@ struct Sent {
     answer: u8,
 }
 
-// A byte sent n times, till a call is refused.
-fn send(image: &mut [u8], table: &mut [u8], fcb: usize, n: usize, byte: u8) -> Sent {
-    let mut i = 0;
-    while i < n {
-        let reply = fms::call(image, table, fcb, byte);
-        let answer = reply.answer;
-        if answer != 0 {
-            return Sent {
-                accepted: i,
-                answer,
-            };
+// An answer as a number.
+pub(crate) fn number<T: Drop>(answer: Result<T, Refusal>) -> u8 {
+    match answer {
+        Ok(_) => 0,
+        Err(e) => e.number(),
+    }
+}
+
+// A function's name.
+fn function_name(code: u8) -> &'static str {
+    match code {
+        0 => "next byte",
+        1 => "open read",
+        2 => "open write",
+        4 => "close",
+        5 => "rewind",
+        6 => "open directory",
+        7 => "next slot",
+        8 => "put slot",
+        9 => "read sector",
+        10 => "write sector",
+        12 => "delete",
+        13 => "rename",
+        _ => "not served",
+    }
+}
+
+// Eleven bytes of a name: eight before the first dot, three behind it, zeros behind each.
+fn name_bytes(text: &[u8]) -> [u8; 11] {
+    let mut bytes = [0u8; 11];
+    let mut parts = text.splitn(2, |b| *b == b'.');
+    let name = parts.next().unwrap_or(&[]);
+    let extension = parts.next().unwrap_or(&[]);
+    for (byte, letter) in bytes[..8].iter_mut().zip(name) {
+        *byte = *letter;
+    }
+    for (byte, letter) in bytes[8..].iter_mut().zip(extension) {
+        *byte = *letter;
+    }
+    bytes
+}
+
+impl Lent<'_> {
+    // The eleven bytes of a name preset from an offset on.
+    pub(crate) fn name(&mut self, rt: &impl Print, line: Line<'_>, offset: u8) -> io::Result<()> {
+        let mut answer = 0;
+        for (i, byte) in name_bytes(line.text()).iter().enumerate() {
+            let preset = blocks::preset(self.table, line.number(0), offset as usize + i, *byte);
+            answer = number(preset);
         }
-        i += 1;
+        print!(rt; " -> {answer}")
     }
-    Sent {
-        accepted: n,
-        answer: 0,
+
+    pub(crate) fn preset(&mut self, rt: &impl Print, line: Line<'_>) -> io::Result<()> {
+        let preset = blocks::preset(self.table, line.number(0), line.number(1), line.byte(2));
+        let answer = number(preset);
+        print!(rt; " -> {answer}")
     }
-}
 
-pub(crate) fn write(
-    rt: &impl Print,
-    image: &mut [u8],
-    table: &mut [u8],
-    line: &[u8],
-) -> io::Result<()> {
-    let fcb = number(line, 0) as usize;
-    let n = number(line, 1) as usize;
-    let sent = send(image, table, fcb, n, byte(line, 2));
-    say::text(rt, b" -> ")?;
-    say::number(rt, sent.accepted)?;
-    say::text(rt, b" accepted, last answer ")?;
-    say::number(rt, sent.answer as usize)
-}
-
-// The end of what was read.
-fn end_read(rt: &impl Print, run: Run) -> io::Result<()> {
-    let times = run.times;
-    if times == 0 {
-        return say::text(rt, b" none");
+    pub(crate) fn extension(&mut self, rt: &impl Print, line: Line<'_>) -> io::Result<()> {
+        let extension = blocks::default_extension(self.table, line.number(0), line.number(1));
+        let answer = number(extension);
+        print!(rt; " -> {answer}")
     }
-    say::end_run(rt, run)
-}
 
-// Up to n bytes read and written out, till a call is refused; the last answer.
-fn fetch(
-    rt: &impl Print,
-    image: &mut [u8],
-    table: &mut [u8],
-    fcb: usize,
-    n: usize,
-) -> io::Result<u8> {
-    let mut run = say::no_run();
-    let mut left = n;
-    while left > 0 {
-        let reply = fms::call(image, table, fcb, 0);
-        let answer = reply.answer;
-        if answer != 0 {
-            end_read(rt, run)?;
-            return Ok(answer);
+    // The function that is called next.
+    pub(crate) fn function(&mut self, line: Line<'_>, code: u8) {
+        let _ = blocks::preset(self.table, line.number(0), 0, code); // a call that follows says what is wrong
+    }
+
+    // The FMS call: the byte that it gives, or its refusal.
+    fn ask(&mut self, fcb: usize, byte: u8) -> Result<u8, Refusal> {
+        fms::call(self.image, self.table, fcb, byte)
+    }
+
+    pub(crate) fn call(&mut self, rt: &impl Print, line: Line<'_>) -> io::Result<()> {
+        let given = self.ask(line.number(0), line.byte(2));
+        let byte = given.unwrap_or(0);
+        let answer = number(given);
+        let name = function_name(line.byte(1));
+        print!(rt; " -> {name}: {answer} byte {byte}")
+    }
+
+    // A byte sent n times, till a call is refused.
+    fn send(&mut self, fcb: usize, n: usize, byte: u8) -> Sent {
+        for accepted in 0..n {
+            if let Err(e) = self.ask(fcb, byte) {
+                return Sent {
+                    accepted,
+                    answer: e.number(),
+                };
+            }
         }
-        run = say::joined(rt, run, reply.byte)?;
-        left -= 1;
+        Sent {
+            accepted: n,
+            answer: 0,
+        }
     }
-    end_read(rt, run)?;
-    Ok(0)
+
+    pub(crate) fn write(&mut self, rt: &impl Print, line: Line<'_>) -> io::Result<()> {
+        let Sent { accepted, answer } = self.send(line.number(0), line.number(1), line.byte(2));
+        print!(rt; " -> {accepted} accepted, last answer {answer}")
+    }
+
+    // Up to n bytes read, each put in the run, till a call is refused; the last answer.
+    fn fetch(&mut self, rt: &impl Print, fcb: usize, n: usize, run: &mut Run) -> io::Result<u8> {
+        for _ in 0..n {
+            match self.ask(fcb, 0) {
+                Ok(byte) => run.push(rt, byte)?,
+                Err(e) => return Ok(e.number()),
+            }
+        }
+        Ok(0)
+    }
+
+    pub(crate) fn read(&mut self, rt: &impl Print, line: Line<'_>) -> io::Result<()> {
+        print!(rt; " ->")?;
+        let mut run = Run::default();
+        let answer = self.fetch(rt, line.number(0), line.number(1), &mut run)?;
+        if run.is_empty() {
+            print!(rt; " none")?;
+        }
+        run.end(rt)?;
+        print!(rt; ", last answer {answer}")
+    }
+
+    // What is lent of the image formatted, with a label of some of the letters.
+    pub(crate) fn shape(&mut self, rt: &impl Print, line: Line<'_>) -> io::Result<()> {
+        let letters = b"ABCDEFGHIJKLMNOPQRSTUVWXYZABCDEF";
+        let volume = Volume {
+            label: &letters[..line.number(2).min(32)],
+            number: (line.number(3) & 0xffff) as u16,
+            month: line.byte(4),
+            day: line.byte(5),
+            year: line.byte(6),
+        };
+        let answer = number(format::format(self.image, line.number(0), line.number(1), volume));
+        print!(rt; " -> {answer}")
+    }
 }
 
-pub(crate) fn read(
-    rt: &impl Print,
-    image: &mut [u8],
-    table: &mut [u8],
-    line: &[u8],
-) -> io::Result<()> {
-    let fcb = number(line, 0) as usize;
-    say::text(rt, b" ->")?;
-    let n = number(line, 1) as usize;
-    let answer = fetch(rt, image, table, fcb, n)?;
-    say::text(rt, b", last answer ")?;
-    say::number(rt, answer as usize)
-}
-
-// The error text of a number into a text.
-fn tell(rt: &impl Print, text: &mut [u8], number: u8) -> io::Result<()> {
-    let answer = message::error_text(text, number);
-    say::answer(rt, answer)?;
-    say::text(rt, b" \"")?;
-    say::text(rt, text)?;
-    say::text(rt, b"\"")
-}
-
-// The error text of a number into the first n bytes of a text, or into all of it.
-fn tell_in(rt: &impl Print, text: &mut [u8], n: u32, number: u8) -> io::Result<()> {
-    let k = text.len().min(n as usize);
-    tell(rt, &mut text[..k], number)
-}
-
-pub(crate) fn text(rt: &impl Print, line: &[u8]) -> io::Result<()> {
-    let mut dots = [46u8; 32];
-    tell_in(rt, &mut dots, number(line, 0), byte(line, 1))
-}
-
-// What is lent of the image formatted, with a label of the first n bytes of some, or of all of them.
-fn shape_in(
-    rt: &impl Print,
-    image: &mut [u8],
-    line: &[u8],
-    letters: &mut [u8],
-    n: u32,
-) -> io::Result<()> {
-    let k = letters.len().min(n as usize);
-    let answer = format::format(
-        image,
-        number(line, 0) as usize,
-        number(line, 1) as usize,
-        &letters[..k],
-        (number(line, 3) % 65536) as u16,
-        byte(line, 4),
-        byte(line, 5),
-        byte(line, 6),
-    );
-    say::answer(rt, answer)
-}
-
-pub(crate) fn shape(rt: &impl Print, image: &mut [u8], line: &[u8]) -> io::Result<()> {
-    let mut letters = *b"ABCDEFGHIJKLMNOPQRSTUVWXYZABCDEF";
-    shape_in(rt, image, line, &mut letters, number(line, 2))
+// The error text of a number into a text of some dots, at most 32.
+pub(crate) fn text(rt: &impl Print, line: Line<'_>) -> io::Result<()> {
+    let mut dots = [b'.'; 32];
+    let text = &mut dots[..line.number(0).min(32)];
+    let answer = number(message::error_text(text, line.byte(1)));
+    print!(rt; " -> {answer} \"")?;
+    rt.write_all(text)?;
+    print!(rt; "\"")
 }

@@ -1,7 +1,5 @@
-// The commands of a script, and which of them a line has by its first word.
-use crate::line::find;
-
-#[derive(Clone, Copy)]
+// The commands of a script, and which of them a word is.
+#[derive(Clone, Copy, PartialEq, Eq)]
 pub(crate) enum Command {
     Blank,
     Heading,
@@ -23,84 +21,43 @@ pub(crate) enum Command {
     Unknown,
 }
 
-// A word that asks the service for something that may change the buffers.
-fn asking_word(word: &[u8]) -> Command {
-    if word == b"name".as_slice() {
-        return Command::Name;
+impl From<&[u8]> for Command {
+    fn from(word: &[u8]) -> Command {
+        match word {
+            b"#" => Command::Heading,
+            b"fresh" => Command::Fresh,
+            b"lend" => Command::Lend,
+            b"diff" => Command::Diff,
+            b"name" => Command::Name,
+            b"as" => Command::As,
+            b"preset" => Command::Preset,
+            b"extension" => Command::Extension,
+            b"call" => Command::Call,
+            b"write" => Command::Write,
+            b"read" => Command::Read,
+            b"shape" => Command::Shape,
+            b"map" => Command::Map,
+            b"text" => Command::Text,
+            b"image" => Command::Image,
+            b"block" => Command::Block,
+            _ => Command::Unknown,
+        }
     }
-    if word == b"as".as_slice() {
-        return Command::As;
-    }
-    if word == b"preset".as_slice() {
-        return Command::Preset;
-    }
-    if word == b"extension".as_slice() {
-        return Command::Extension;
-    }
-    if word == b"call".as_slice() {
-        return Command::Call;
-    }
-    if word == b"write".as_slice() {
-        return Command::Write;
-    }
-    if word == b"read".as_slice() {
-        return Command::Read;
-    }
-    if word == b"shape".as_slice() {
-        return Command::Shape;
-    }
-    Command::Unknown
 }
 
-// The command that a word is.
-fn of_word(word: &[u8]) -> Command {
-    if word == b"#".as_slice() {
-        return Command::Heading;
-    }
-    if word == b"fresh".as_slice() {
-        return Command::Fresh;
-    }
-    if word == b"lend".as_slice() {
-        return Command::Lend;
-    }
-    if word == b"diff".as_slice() {
-        return Command::Diff;
-    }
-    if word == b"map".as_slice() {
-        return Command::Map;
-    }
-    if word == b"text".as_slice() {
-        return Command::Text;
-    }
-    if word == b"image".as_slice() {
-        return Command::Image;
-    }
-    if word == b"block".as_slice() {
-        return Command::Block;
-    }
-    asking_word(word)
-}
-
-// The command of a line: that of its first word, which a space or the line's end ends.
-pub(crate) fn of_line(line: &[u8]) -> Command {
-    if line.len() == 0 {
-        return Command::Blank;
-    }
-    let end = find(line, 0, b' ');
-    of_word(&line[0..end])
-}
-
-// Does the command ask the service for something that may change the buffers?
-pub(crate) fn is_asking(command: Command) -> bool {
-    match command {
-        Command::Name
-        | Command::As
-        | Command::Preset
-        | Command::Extension
-        | Command::Call
-        | Command::Write
-        | Command::Read
-        | Command::Shape => true,
-        _ => false,
+impl Command {
+    // Does it ask the service for something that may change the buffers?
+    pub(crate) fn is_asking(self) -> bool {
+        matches!(
+            self,
+            Command::Name
+                | Command::As
+                | Command::Preset
+                | Command::Extension
+                | Command::Call
+                | Command::Write
+                | Command::Read
+                | Command::Shape
+        )
     }
 }

@@ -1,90 +1,79 @@
 // Bytes of image and blocks: shown, put by hand, and compared with what they were.
-ghost use Rattle.std.specs.Prelude.{◌<◌};
-
-use crate::line::{Found, find, number, number_at};
-use crate::say;
+use crate::line::Line;
 use crate::say::Run;
-use cells::{get, put};
-use std::io;
+use std::fmt::{Display, Formatter, Write};
+use std::{fmt, io, iter};
 
-// The numbers of a line from an index on, put as bytes from a place on.
-fn put_all(s: &mut [u8], from: usize, line: &[u8], index: usize)
-    requires { (from < 2199023255552) × (index < 8) }
-{
-    let mut i = 0;
-    while i < 64 {
-        match number_at(line, index + i) {
-            Found::Number(n) => put(s, from + i, (n % 256) as u8),
-            Found::Nothing => return,
-        }
-        i += 1;
+// The numbers of a line from an index on, at most 64, put as bytes from a place on.
+fn put_all(s: &mut [u8], from: usize, line: Line<'_>, index: usize) {
+    let numbers = line.numbers().skip(index).take(64);
+    for (byte, n) in s.iter_mut().skip(from).zip(numbers) {
+        *byte = (n & 0xff) as u8;
     }
+}
+
+// n bytes from a place on, zeros for those that are not there.
+fn show(rt: &impl Print, s: &[u8], from: usize, n: usize) -> io::Result<()> {
+    print!(rt; " ->")?;
+    let mut run = Run::default();
+    for byte in s.iter().copied().skip(from).chain(iter::repeat(0)).take(n) {
+        run.push(rt, byte)?;
+    }
+    run.end(rt)
 }
 
 // Bytes from a place on: those of the line put there where it has a `=`; else as many shown as it says.
-fn at(rt: &impl Print, s: &mut [u8], from: usize, line: &[u8], index: usize) -> io::Result<()>
-    requires { (from < 2199023255552) × (index < 8) }
-{
-    let sign = find(line, 0, b'=');
-    if sign < line.len() {
+fn at(rt: &impl Print, s: &mut [u8], from: usize, line: Line<'_>, index: usize) -> io::Result<()> {
+    if line.has(b'=') {
         put_all(s, from, line, index);
         return Ok(());
     }
-    say::bytes(rt, s, from, number(line, index) as usize)
+    show(rt, s, from, line.number(index))
 }
 
-pub(crate) fn image(rt: &impl Print, image: &mut [u8], line: &[u8]) -> io::Result<()> {
-    at(rt, image, number(line, 0) as usize, line, 1)
+pub(crate) fn image(rt: &impl Print, image: &mut [u8], line: Line<'_>) -> io::Result<()> {
+    at(rt, image, line.number(0), line, 1)
 }
 
-pub(crate) fn block(rt: &impl Print, table: &mut [u8], line: &[u8]) -> io::Result<()> {
-    let block = number(line, 0) as usize;
-    let offset = number(line, 1) as usize;
-    at(rt, table, 320 * block + offset, line, 2)
+pub(crate) fn block(rt: &impl Print, table: &mut [u8], line: Line<'_>) -> io::Result<()> {
+    at(rt, table, 320 * line.number(0) + line.number(1), line, 2)
 }
 
-// Where a run of changed bytes begins: in the image, or in a block.
-fn say_place(rt: &impl Print, is_image: bool, at: usize) -> io::Result<()> {
-    say::text(rt, b"\n  ")?;
-    if is_image {
-        say::text(rt, b"image ")?;
-        say::number(rt, at)?;
-    } else {
-        say::text(rt, b"block ")?;
-        say::number(rt, at / 320)?;
-        say::text(rt, b" ")?;
-        say::number(rt, at % 320)?;
+// Where a run of changed bytes begins: in the image, or in the table of blocks.
+#[derive(Clone, Copy)]
+pub(crate) enum Place {
+    Image(usize),
+    Table(usize),
+}
+
+impl Display for Place {
+    fn fmt<W: Write>(&self, f: &mut Formatter<W>) -> fmt::Result {
+        match *self {
+            Place::Image(at) => write!(f, "image {at}"),
+            Place::Table(at) => write!(f, "block {} {}", at / 320, at % 320),
+        }
     }
-    say::text(rt, b":")
-}
-
-// One place: its byte in the run of changed ones, or the run is over.
-fn compared(
-    rt: &impl Print,
-    is_image: bool,
-    at: usize,
-    run: Run,
-    now: u8,
-    before: u8,
-) -> io::Result<Run> {
-    let times = run.times;
-    if now == before {
-        say::end_run(rt, run)?;
-        return Ok(say::no_run());
-    }
-    if times == 0 {
-        say_place(rt, is_image, at)?;
-    }
-    say::joined(rt, run, now)
 }
 
 // The bytes of s that are not what they were.
-pub(crate) fn changes(rt: &impl Print, is_image: bool, s: &[u8], before: &[u8]) -> io::Result<()> {
-    let mut run = say::no_run();
-    let mut i = 0;
-    while i < s.len() {
-        run = compared(rt, is_image, i, run, get(s, i), get(before, i))?;
-        i += 1;
+pub(crate) fn changes<F: Fn(usize) -> Place>(
+    rt: &impl Print,
+    s: &[u8],
+    before: &[u8],
+    place: F,
+) -> io::Result<()>
+    requires { F.IsAlwaysCallable place }
+{
+    let mut run = Run::default();
+    for (i, (now, old)) in s.iter().zip(before).enumerate() {
+        if now == old {
+            run.end(rt)?;
+            continue;
+        }
+        if run.is_empty() {
+            print!(rt; "\n  {}:", place(i))?;
+        }
+        run.push(rt, *now)?;
     }
-    say::end_run(rt, run)
+    run.end(rt)
 }

@@ -59,10 +59,10 @@ fn run_file<R: Files + Print + Alloc>(rt: &R, mut file: R::File) -> io::Result<(
     };
     match more {
         Err(e) if e.kind() == ErrorKind::OutOfMemory => Err(e),
-        Err(_) => say::text(rt, b"? the file cannot be read\n"),
-        Ok(0) if script.is_empty() => say::text(rt, b"? the file is empty\n"),
+        Err(_) => println!(rt; "? the file cannot be read"),
+        Ok(0) if script.is_empty() => println!(rt; "? the file is empty"),
         Ok(0) => script::run(rt, &script),
-        Ok(_) => say::text(rt, b"? the file has more than 65,536 bytes\n"),
+        Ok(_) => println!(rt; "? the file has more than 65,536 bytes"),
     }
 }
 
@@ -72,7 +72,8 @@ fn open_read<R: Files>(rt: &R, name: &[u8]) -> Option<R::File> {
     fs::open(rt, path).ok()
 }
 
-// The script in the file that argument i names; whether there is such an argument.
+// The script in the file that argument i names; whether there is such an argument. `env::args` would do without the buffer and its length,
+// but gives only names that are UTF-8 text, and what is printed of another is its bytes.
 fn run_named<R: Env + Files + Print + Alloc>(rt: &R, i: usize) -> io::Result<bool> {
     let mut name = [0u8; 4096];
     let n = match rt.arg(i, &mut name) {
@@ -80,12 +81,12 @@ fn run_named<R: Env + Files + Print + Alloc>(rt: &R, i: usize) -> io::Result<boo
         Err(FillError::TooLong) => 0,
         Err(FillError::NotPresent) => return Ok(false),
     };
-    say::text(rt, b"\nfile ")?;
-    say::text(rt, &name[..n])?;
-    say::text(rt, b"\n")?;
+    print!(rt; "\nfile ")?;
+    rt.write_all(&name[..n])?;
+    println!(rt; "")?;
     match open_read(rt, &name[..n]) {
         Some(file) => run_file(rt, file)?,
-        None => say::text(rt, b"? the file cannot be opened\n")?,
+        None => println!(rt; "? the file cannot be opened")?,
     }
     Ok(true)
 }

@@ -1,78 +1,50 @@
-// What is written out: texts, numbers, bytes in a row.
-use cells::get_in;
-use std::io;
-
-pub(crate) fn text(rt: &impl Print, t: &[u8]) -> io::Result<()> {
-    rt.write_all(t)
-}
-
-pub(crate) fn number(rt: &impl Print, n: usize) -> io::Result<()> {
-    rt.print(n)
-}
-
-// The answer of a command that gives nothing else.
-pub(crate) fn answer(rt: &impl Print, n: u8) -> io::Result<()> {
-    text(rt, b" -> ")?;
-    number(rt, n as usize)
-}
+// Bytes written out in a row, eight and more equal ones as "byte*count".
+use std::fmt::{Display, Formatter, Write};
+use std::{fmt, io, mem};
 
 // Equal bytes in a row, so many times.
-#[derive(Clone, Copy)]
+#[derive(Clone, Copy, Default)]
 pub(crate) struct Run {
-    pub(crate) byte: u8,
-    pub(crate) times: usize,
+    byte: u8,
+    times: usize,
 }
 
-pub(crate) fn no_run() -> Run {
-    Run { byte: 0, times: 0 }
-}
-
-fn repeated(rt: &impl Print, byte: u8, times: usize) -> io::Result<()> {
-    let mut left = times;
-    while left > 0 {
-        text(rt, b" ")?;
-        number(rt, byte as usize)?;
-        left -= 1;
-    }
-    Ok(())
-}
-
-// A run that is over: its bytes, or where it is long its byte and how many.
-pub(crate) fn end_run(rt: &impl Print, r: Run) -> io::Result<()> {
-    let byte = r.byte;
-    let times = r.times;
-    if times < 8 {
-        return repeated(rt, byte, times);
-    }
-    text(rt, b" ")?;
-    number(rt, byte as usize)?;
-    text(rt, b"*")?;
-    number(rt, times)
-}
-
-// One byte more: in the run, or the run is over and the byte begins the next.
-pub(crate) fn joined(rt: &impl Print, r: Run, byte: u8) -> io::Result<Run> {
-    let times = r.times;
-    if times < 65536 {
-        if byte == r.byte {
-            return Ok(Run {
-                byte,
-                times: times + 1,
-            });
+impl Display for Run {
+    fn fmt<W: Write>(&self, f: &mut Formatter<W>) -> fmt::Result {
+        let byte = self.byte;
+        let times = self.times;
+        if times >= 8 {
+            return write!(f, " {byte}*{times}");
         }
+        for _ in 0..times {
+            write!(f, " {byte}")?;
+        }
+        Ok(())
     }
-    end_run(rt, r)?;
-    Ok(Run { byte, times: 1 })
 }
 
-// n bytes from a place on.
-pub(crate) fn bytes(rt: &impl Print, s: &[u8], from: usize, n: usize) -> io::Result<()> {
-    text(rt, b" ->")?;
-    let mut run = no_run();
-    let mut i = 0;
-    while i < n {
-        run = joined(rt, run, get_in(s, from, i))?;
-        i += 1;
+impl Run {
+    pub(crate) fn is_empty(self) -> bool {
+        self.times == 0
     }
-    end_run(rt, run)
+
+    // The run is over: it is written out, and the next has no byte yet.
+    pub(crate) fn end(&mut self, rt: &impl Print) -> io::Result<()> {
+        let over = mem::take(self);
+        if over.is_empty() {
+            return Ok(());
+        }
+        rt.print(over)
+    }
+
+    // One byte more: in the run, or the run is over and the byte begins the next.
+    pub(crate) fn push(&mut self, rt: &impl Print, byte: u8) -> io::Result<()> {
+        if self.times < 65536 && byte == self.byte {
+            self.times += 1;
+            return Ok(());
+        }
+        self.end(rt)?;
+        *self = Run { byte, times: 1 };
+        Ok(())
+    }
 }

@@ -1,55 +1,49 @@
--- Laws of the leaves: a loop over a part, the part back in its place, bytes past the end, a number of two bytes.
-use mathlib.Core.Path.{◌≡◌, sym, ap, ap₂, ◌∙◌}
+-- Laws of the leaves: a loop over a slice, a part back in its place, bytes past the end, a number of two bytes.
+use mathlib.Core.Path.{◌≡◌, refl, sym, ap, ap₂, ◌∙◌}
 use mathlib.Core.List.{List, [], ◌∷◌, ◌++◌}
-use Prim.Native.Nat.{ℕ, ◌+◌, ◌-◌, ◌/◌, ◌%◌, ◌<◌, ◌≤◌}
-use native.Mathlib.Numerals.{add-one}
+use Prim.Native.Nat.{ℕ, ◌+◌, ◌-◌, ◌/◌, ◌%◌, ◌<◌, ◌≤◌, min}
 use native.Mathlib.Omega.{arith}
 use borrow.Rule.Slice.PartMut.{mid_of, put_mid, mid_len}
-use lib.ListN.{length, get_or, set, take, drop}
-use lib.Seq.{take-suc, take-suc-set, take_all}
-use Rattle.rules.specs.Bytes.{part, over, one, two, zeros}
-use Rattle.laws.specs.Bytes.{length-zeros, zeros-at, take-zeros, drop-zeros, part_slice, part_join, part-past, over-append, over-again}
+use lib.ListN.{length, get_or, set, take, drop, replicate}
+use native.Mathlib.Numerals.{add-one}
+use lib.Seq.{take_all, take-suc}
+use Rattle.std.proofs.lemmas.List.{take_more_set, take-replicate, length-replicate, get_or-replicate}
+use Rattle.rules.specs.Bytes.{part, over, one, two, six, zeros}
+use Rattle.laws.specs.Bytes.{length-zeros, drop-zeros, part_slice, part_join, part-past, over-append, over-again}
 use Rattle.laws.specs.Lent.{over-part, over-whole}
 
--- ---- a loop that sets the bytes of a part to those of vs: d is the part after i of them
-module _ (d vs : List ℕ) (n i : ℕ) (l : length d ≡ n) (e : take i d ≡ take i vs) where
-  pub laid_more : (v : ℕ) → i < n → n ≤ length vs → v ≡ get_or vs i 0 → take (i + 1) (set d i v) ≡ take (i + 1) vs
-  laid_more v h k a =
-      rw add-one
-      (take-suc-set d i v (omega arith) ∙ ap (λ (t : List ℕ). t ++ (v ∷ [])) e
-      ∙ ap (λ (x : ℕ). take i vs ++ (x ∷ [])) a ∙ sym (take-suc vs i 0 (omega arith)))
+-- ---- a loop that sets every value to that of vs with the same index: d is the slice after i of them
+module _ {A : Type 0} (d vs : List A) (i : ℕ) (e : take i d ≡ take i vs) where
+  pub laid-more : (v : A) → i < length d → i < length vs → v ≡ get_or vs i v → take (i + 1) (set d i v) ≡ take (i + 1) vs
+  laid-more v h k a =
+      take_more_set d i v h ∙ ap (λ l. l ++ (v ∷ [])) e ∙ ap (λ x. take i vs ++ (x ∷ [])) a ∙ rw add-one (sym (take-suc vs i v k))
 
-  pub laid-all : n ≤ i → i ≤ n → d ≡ take n vs
-  laid-all h k = let t : i ≡ n = omega arith in sym (take_all i d (omega arith)) ∙ e ∙ ap (λ (j : ℕ). take j vs) t
+  pub laid-end : (n : ℕ) → length d ≡ n → n ≤ i → i ≤ n → d ≡ take n vs
+  laid-end n l h k = let t : i ≡ n = omega arith in sym (take_all i d (omega arith)) ∙ e ∙ ap (λ j. take j vs) t
 
--- the same for zeros
-module _ (d : List ℕ) (n i : ℕ) (l : length d ≡ n) (e : take i d ≡ take i (zeros n)) where
-  pub wiped-more : i < n → take (i + 1) (set d i 0) ≡ take (i + 1) (zeros n)
-  wiped-more h = laid_more d (zeros n) n i l e 0 h (omega (arith, length-zeros n)) (sym (zeros-at n i))
+-- the same where vs is one value
+module _ {A : Type 0} (d : List A) (i n : ℕ) (v : A) (e : take i d ≡ take i (replicate n v)) (l : length d ≡ n) where
+  pub filled-more : i < n → take (i + 1) (set d i v) ≡ take (i + 1) (replicate n v)
+  filled-more h = laid-more d (replicate n v) i e v (omega arith) (omega (arith, length-replicate {A = A} n v)) (sym (get_or-replicate n i v v h))
 
-  pub wiped-all : n ≤ i → i ≤ n → d ≡ zeros n
-  wiped-all h k = laid-all d (zeros n) n i l e h k ∙ take_all n (zeros n) (omega (arith, length-zeros n))
+  pub filled-end : n ≤ i → i ≤ n → d ≡ replicate n v
+  filled-end h k = laid-end d (replicate n v) i e n l h k ∙ take_all n (replicate n v) (omega (arith, length-replicate {A = A} n v))
 
--- ---- the part back in its place: d is the part after the loop
+-- ---- the part back in its place, up to e: d is the part after a store into it
+module _ {A : Type 0} (m d : List A) (at e : ℕ) (h : at ≤ e) (a : e ≤ length m) where
+  -- as many of vs as there is room for
+  pub laid-all : (vs : List A) → e ≡ at + length vs → d ≡ take (length (mid_of at (e - at) m)) vs → put_mid at (e - at) m d ≡ over m at vs
+  laid-all vs q r = over-whole m d vs at e h a (omega arith) (λ b. omega arith) r
 
-module _ (m d vs : List ℕ) (at : ℕ) (h : at < length m) where
-  -- it goes to the end of the list, where not all of vs has room
-  pub laid-rest : length m - at < length vs → d ≡ take (length (mid_of at (length m - at) m)) vs → put_mid at (length m - at) m d ≡ over m at vs
-  laid-rest n e = over-whole m d vs at (length m) (omega arith) (omega arith) (omega arith) (λ b. omega arith) e
+  pub laid-rest : (vs : List A) → e ≡ length m → e - at < length vs → d ≡ take (length (mid_of at (e - at) m)) vs → put_mid at (e - at) m d ≡ over m at vs
+  laid-rest vs q b r = over-whole m d vs at e h a (omega arith) (λ u. omega arith) r
 
-  -- it is as long as vs
-  pub laid-part : (n : ℕ) → n ≡ length vs → n ≤ length m - at → d ≡ take (length (mid_of at (at + n - at) m)) vs → put_mid at (at + n - at) m d ≡ over m at vs
-  laid-part n l k e = over-whole m d vs at (at + n) (omega arith) (omega arith) (omega arith) (λ b. omega arith) e
-
--- the same for zeros
-module _ (m d : List ℕ) (at n : ℕ) (h : at < length m) where
-  pub wiped-rest : length m - at < n → d ≡ zeros (length (mid_of at (length m - at) m)) → put_mid at (length m - at) m d ≡ over m at (zeros n)
-  wiped-rest k e =
-      laid-rest m d (zeros n) at h (omega (arith, length-zeros n)) (e ∙ sym (take-zeros _ n (omega (arith, mid_len at (length m) m (omega arith)))))
-
-  pub wiped-part : n ≤ length m - at → d ≡ zeros (length (mid_of at (at + n - at) m)) → put_mid at (at + n - at) m d ≡ over m at (zeros n)
-  wiped-part k e =
-      laid-part m d (zeros n) at h n (sym (length-zeros n)) k (e ∙ sym (take-zeros _ n (omega (arith, mid_len at (at + n) m (omega arith)))))
+  -- one value, as often as there is room
+  pub laid-run : (n k : ℕ) (v : A) → e ≡ at + k → k ≡ min n (length m - at) → d ≡ replicate (length (mid_of at (e - at) m)) v → put_mid at (e - at) m d ≡ over m at (replicate n v)
+  laid-run n k v q r s =
+      let l : length (mid_of at (e - at) m) ≡ e - at = mid_len at e m a in
+      over-whole m d (replicate n v) at e h a (omega (arith, length-replicate {A = A} n v)) (λ b. omega (arith, length-replicate {A = A} n v))
+      (s ∙ sym (take-replicate (length (mid_of at (e - at) m)) n v (omega arith)))
 
 -- ---- n bytes of a list from a place on, 0 past its end
 
@@ -82,7 +76,16 @@ module _ (m d src : List ℕ) (at from n : ℕ) where
   pub copied_none : length src ≤ from → d ≡ over m at (zeros n) → d ≡ over m at (part src from n)
   copied_none h e = e ∙ ap (over m at) (sym (part-past src from n h))
 
--- ---- a number of two bytes, stored byte by byte
-pub two-stored : (m c d : List ℕ) (at v : ℕ) → c ≡ over m at (one (v / 256 % 256)) → d ≡ over c (at + 1) (one (v % 256)) → d ≡ over m at (two v)
+-- ---- numbers of two bytes, stored byte by byte and in a row: bs are the bytes of v
+
+pub two-stored : (m c d bs : List ℕ) (at v : ℕ) → bs ≡ v / 256 % 256 ∷ v % 256 ∷ [] → c ≡ over m at (one (get_or bs 0 0)) → d ≡ over c (at + 1) (one (get_or bs 1 0)) → d ≡ over m at (two v)
 unfolding one two
-two-stored m c d at v e f = f ∙ ap (λ (x : List ℕ). over x (at + 1) (one (v % 256))) e ∙ sym (over-append m at (one (v / 256 % 256)) (one (v % 256)))
+two-stored m c d bs at v b e f =
+    f
+    ∙ ap₂ (λ (x l : List ℕ). over x (at + 1) (get_or l 1 0 ∷ [])) (e ∙ ap (λ (l : List ℕ). over m at (get_or l 0 0 ∷ [])) b) b
+    ∙ sym (over-append m at (v / 256 % 256 ∷ []) (v % 256 ∷ []))
+
+pub six-row : (m d xs ys zs : List ℕ) (at x y z : ℕ) → xs ≡ x / 256 % 256 ∷ x % 256 ∷ [] → ys ≡ y / 256 % 256 ∷ y % 256 ∷ [] → zs ≡ z / 256 % 256 ∷ z % 256 ∷ []
+    → (b : List ℕ) → b ≡ xs ++ (ys ++ (zs ++ [])) → d ≡ over m at b → d ≡ over m at (six x y z)
+unfolding six
+six-row m d xs ys zs at x y z e f g b h k = rw (k, h, e, f, g) refl

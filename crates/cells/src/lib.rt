@@ -1,48 +1,21 @@
-// Leaves over byte slices: a byte, a number of two bytes, runs of bytes, read and stored at a place. All that are public are total:
-// past the end a byte reads as 0, and nothing is stored. A run is passed on as a part of its slice, and its loop has an index of
-// its own.
+// Leaves over slices: a value, or a run of values, read and stored at a place. All are total: past the end a byte reads as 0, and
+// nothing is stored. What stands of a store alone serves bytes and the census's 16-bit numbers alike.
 #![tactic(auto)]
 
-ghost use Rattle.std.specs.Prelude.{◌≡◌, ◌+◌, ◌≤◌, get_or, length, take};
+ghost use Rattle.std.specs.Prelude.{◌≡◌, ◌+◌, ◌≤◌, get_or, length, replicate, take};
 ghost use Rattle.rules.specs.Bytes.{word_at, part, over, one, two, six, zeros};
 
-// The byte at a place.
-pub fn get(s: &[u8], at: usize) -> u8
-    ensures { result ≡ get_or s.now at 0 }
+// ---- values of any type
+
+// The value at a place, another past the end.
+pub fn entry<T: Copy>(s: &[T], at: usize, none: T) -> T
+    ensures { result ≡ get_or s.now at none }
 {
-    if at < s.len() {
-        return s[at];
-    }
-    0
+    s.get(at).copied().unwrap_or(none)
 }
 
-// The byte i further on than a place.
-pub fn get_in(s: &[u8], at: usize, i: usize) -> u8
-    ensures { result ≡ get_or s.now (at + i) 0 }
-{
-    if s.len() <= at {
-        return 0;
-    }
-    if s.len() - at <= i {
-        return 0;
-    }
-    s[at + i]
-}
-
-// The number of two bytes at a place, high byte first.
-pub fn get2(s: &[u8], at: usize) -> u16
-    ensures { result ≡ word_at s.now at }
-{
-    if s.len() <= at {
-        return 0;
-    }
-    let high = get(s, at);
-    let low = get(s, at + 1);
-    high as u16 * 256 + low as u16
-}
-
-// A byte stored.
-pub fn put(s: &mut [u8], at: usize, v: u8)
+// A value stored.
+pub fn put<T: Copy>(s: &mut [T], at: usize, v: T)
     ensures { s.new ≡ over s.old at (one v) }
 {
     if at < s.len() {
@@ -50,29 +23,106 @@ pub fn put(s: &mut [u8], at: usize, v: u8)
     }
 }
 
-// Every byte of dst set to the byte of src with the same index.
-fn overlay(dst: &mut [u8], src: &[u8])
-    requires { length dst.old ≤ length src.now }
-    ensures { dst.new ≡ take (length dst.old) src.now }
+// A value stored i places behind a place. Their sum may be past any slice's end.
+pub fn place<T: Copy>(s: &mut [T], at: usize, i: usize, v: T)
+    ensures { s.new ≡ over s.old (at + i) (one v) }
 {
-    let n = dst.len();
-    let mut i = 0;
-    while i < n {
-        dst[i] = src[i];
-        i += 1;
+    if i < s.len().saturating_sub(at) {
+        s[at + i] = v;
     }
 }
 
-// Every byte of dst set to 0.
-fn wipe(dst: &mut [u8])
-    ensures { dst.new ≡ zeros (length dst.old) }
+// A value stored everywhere. The library's `fill` asks for a clone that cannot fail, which a type that is copied need not have.
+pub fn fill<T: Copy>(s: &mut [T], v: T)
+    ensures { s.new ≡ replicate (length s.old) v }
 {
-    let n = dst.len();
-    let mut i = 0;
-    while i < n {
-        dst[i] = 0;
-        i += 1;
+    for x in s.iter_mut() {
+        *x = v;
     }
+}
+
+// A value stored n times, from a place on, as often as there is room.
+pub fn run<T: Copy>(dst: &mut [T], at: usize, n: usize, v: T)
+    ensures { dst.new ≡ over dst.old at (replicate n v) }
+{
+    if at < dst.len() {
+        let n = n.min(dst.len() - at);
+        fill(&mut dst[at..at + n], v);
+    }
+}
+
+// Every value of dst set to that of src with the same index. By the library's `copy_from_slice`, which calls memcpy, format takes 1.66
+// times the instructions of the plain Rust, and its aim is 1.5.
+fn overlay<T: Copy>(dst: &mut [T], src: &[T])
+    requires { length dst.old ≤ length src.now }
+    ensures { dst.new ≡ take (length dst.old) src.now }
+{
+    for (i, x) in dst.iter_mut().enumerate() {
+        *x = src[i];
+    }
+}
+
+// The values of src stored, as many of them as there is room for.
+pub fn store<T: Copy>(dst: &mut [T], at: usize, src: &[T])
+    ensures { dst.new ≡ over dst.old at src.now }
+{
+    if dst.len() <= at {
+        return;
+    }
+    if dst.len() - at < src.len() {
+        overlay(&mut dst[at..], src);
+        return;
+    }
+    overlay(&mut dst[at..at + src.len()], src);
+}
+
+// ---- bytes
+
+// The byte at a place.
+pub fn get(s: &[u8], at: usize) -> u8
+    ensures { result ≡ get_or s.now at 0 }
+{
+    entry(s, at, 0)
+}
+
+// The byte i further on than a place.
+pub fn get_in(s: &[u8], at: usize, i: usize) -> u8
+    ensures { result ≡ get_or s.now (at + i) 0 }
+{
+    get(s, at.saturating_add(i))
+}
+
+// The number of two bytes at a place, high byte first.
+pub fn get2(s: &[u8], at: usize) -> u16
+    ensures { result ≡ word_at s.now at }
+{
+    u16::from_be_bytes([get(s, at), get_in(s, at, 1)])
+}
+
+// A number of two bytes stored.
+pub fn put2(dst: &mut [u8], at: usize, v: u16)
+    ensures { dst.new ≡ over dst.old at (two v) }
+{
+    if at < dst.len() {
+        let [high, low] = v.to_be_bytes();
+        dst[at] = high;
+        put(dst, at + 1, low);
+    }
+}
+
+// Three numbers of two bytes stored in a row.
+pub fn put6(dst: &mut [u8], at: usize, x: u16, y: u16, z: u16)
+    ensures { dst.new ≡ over dst.old at (six x y z) }
+{
+    let b = [x.to_be_bytes(), y.to_be_bytes(), z.to_be_bytes()];
+    store(dst, at, b.as_flattened());
+}
+
+// n zeros stored, as many of them as there is room for.
+pub fn clear(dst: &mut [u8], at: usize, n: usize)
+    ensures { dst.new ≡ over dst.old at (zeros n) }
+{
+    run(dst, at, n, 0);
 }
 
 // A part of src stored: n bytes from its place `from` on, zeros for those that it does not have.
@@ -89,58 +139,4 @@ pub fn copy(dst: &mut [u8], at: usize, src: &[u8], from: usize, n: usize)
         return;
     }
     store(dst, at, &src[from..from + n]);
-}
-
-// The bytes of src stored, as many of them as there is room for.
-pub fn store(dst: &mut [u8], at: usize, src: &[u8])
-    ensures { dst.new ≡ over dst.old at src.now }
-{
-    if dst.len() <= at {
-        return;
-    }
-    if dst.len() - at < src.len() {
-        overlay(&mut dst[at..], src);
-        return;
-    }
-    overlay(&mut dst[at..at + src.len()], src);
-}
-
-// A number of two bytes stored.
-pub fn put2(dst: &mut [u8], at: usize, v: u16)
-    ensures { dst.new ≡ over dst.old at (two v) }
-{
-    if dst.len() <= at {
-        return;
-    }
-    put(dst, at, (v / 256 % 256) as u8);
-    put(dst, at + 1, (v % 256) as u8);
-}
-
-// Three numbers of two bytes stored in a row.
-pub fn put6(dst: &mut [u8], at: usize, x: u16, y: u16, z: u16)
-    ensures { dst.new ≡ over dst.old at (six x y z) }
-{
-    let b = [
-        (x / 256 % 256) as u8,
-        (x % 256) as u8,
-        (y / 256 % 256) as u8,
-        (y % 256) as u8,
-        (z / 256 % 256) as u8,
-        (z % 256) as u8,
-    ];
-    store(dst, at, &b);
-}
-
-// n zeros stored, as many of them as there is room for.
-pub fn clear(dst: &mut [u8], at: usize, n: usize)
-    ensures { dst.new ≡ over dst.old at (zeros n) }
-{
-    if dst.len() <= at {
-        return;
-    }
-    if dst.len() - at < n {
-        wipe(&mut dst[at..]);
-        return;
-    }
-    wipe(&mut dst[at..at + n]);
 }

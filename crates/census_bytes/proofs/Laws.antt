@@ -13,13 +13,11 @@ use Rattle.rules.specs.Bytes.{pick, over, two}
 use Rattle.rules.specs.Image.{shape_right, last_track, per_track}
 use Rattle.rules.specs.Census.{Survey, survey, census, concluded, fault, listed, owners}
 use Rattle.rules.specs.Host.{as_bytes, host_concluded, host_census}
-use mir.Syntax.{w64}
-use mir.Val.{Fits}
 use Rattle.laws.specs.Addresses.{shape_is, data-few}
-use Rattle.disk.specs.declared.Shaped.{Shaped}
-use Rattle.disk.specs.declared.Shaped.TheVariants.{Wrong}
+use Rattle.disk.specs.declared.Shape.{Shape}
+use Rattle.std.specs.Prelude.{Option, None}
 use Rattle.disk.specs.Loaded.{shape_of}
-use Rattle.disk.specs.Shapes.{Shaping, wrong-is}
+use Rattle.disk.specs.Shapes.{Shaping, none-is}
 use Rattle.laws.specs.Bytes.{over-append, over_none}
 use Rattle.laws.specs.Lent.{over-exact}
 use Rattle.laws.specs.Surveys.{length-bytes}
@@ -72,36 +70,30 @@ concluded-bytes img M S e = go (eqb e 0)
     go true = refl
     go false = ap₂ (survey e) (bytes-full (M * S)) (bytes-full (M * S))
 
-module _ (img xs ys : List ℕ) (M S : ℕ) (p : Shaping img M S) where
-  wide : 2 * (M * S) ≡ 2 * (last_track img * per_track img)
-  wide = ap₂ (λ (a b : ℕ). 2 * (a * b)) p.1 p.2
+-- n data sectors
+module _ (img xs ys : List ℕ) (M S : ℕ) (p : Shaping img M S) {n : ℕ} (q : n ≡ M * S) where
+  pub all_sectors : n ≡ last_track img * per_track img
+  all_sectors = q ∙ ap₂ (λ (a b : ℕ). a * b) p.1 p.2
 
-  pub host-first : (length xs ≡ 2 * (M * S) → ⊥) → survey 40 xs ys ≡ host_census img xs ys
+  wide : 2 * n ≡ 2 * (last_track img * per_track img)
+  wide = ap (λ (j : ℕ). 2 * j) all_sectors
+
+  pub host-first : (length xs ≡ 2 * n → ⊥) → survey 40 xs ys ≡ host_census img xs ys
   unfolding host_census
   host-first h = rw (p.0, ne_eqb (length xs) (2 * (last_track img * per_track img)) (λ e. h (e ∙ sym wide))) refl
 
-  pub host-second : length xs ≡ 2 * (M * S) → (length ys ≡ 2 * (M * S) → ⊥) → survey 40 xs ys ≡ host_census img xs ys
+  pub host-second : length xs ≡ 2 * n → (length ys ≡ 2 * n → ⊥) → survey 40 xs ys ≡ host_census img xs ys
   unfolding host_census
   host-second l h =
       rw (p.0, eq-eqb (length xs) (2 * (last_track img * per_track img)) (l ∙ wide), ne_eqb (length ys) (2 * (last_track img * per_track img)) (λ e. h (e ∙ sym wide))) refl
 
--- at most 79 · 36 data sectors
-pub few : (img : List ℕ) (M S : ℕ) → Shaping img M S → M * S ≤ 2844
-few img M S p = rw (p.1, p.2) (data-few (last_track img) (per_track img) (shape_is img p.0).shape)
+  -- at most 79 · 36
+  pub few : n ≤ 2844
+  few = rw all_sectors (data-few (last_track img) (per_track img) (shape_is img p.0).shape)
 
-pub product-fits : (img : List ℕ) (M S : ℕ) → Shaping img M S → Fits w64 (M * S)
-product-fits img M S p = record { fits = omega (arith, few img M S p) }
-
-pub twice-fits : (img : List ℕ) (M S : ℕ) → Shaping img M S → Fits w64 (2 * (M * S))
-twice-fits img M S p = record { fits = omega (arith, few img M S p) }
-
-pub numbers-ready : (img xs ys : List ℕ) (M S : ℕ) {k : ℕ} → Shaping img M S → length xs ≡ 2 * (M * S) → length ys ≡ 2 * (M * S) → M * S ≤ k
-    → (shape_right img ≡ true) × (M * S ≡ last_track img * per_track img) × (M * S ≤ k) × (length xs ≡ 2 * (M * S)) × (length ys ≡ 2 * (M * S))
-numbers-ready img xs ys M S p h l m = (p.0, ap₂ (λ (a b : ℕ). a * b) p.1 p.2, m, h, l)
-
-pub host-wrong : (img xs ys : List ℕ) {z : Shaped} → z ≡ shape_of img → z ≡ Wrong → survey 41 xs ys ≡ host_census img xs ys
+pub host-wrong : (img xs ys : List ℕ) {z : Option Shape} → z ≡ shape_of img → z ≡ None → survey 41 xs ys ≡ host_census img xs ys
 unfolding host_census
-host-wrong img xs ys e r = rw (wrong-is img e r) refl
+host-wrong img xs ys e r = rw (none-is img e r) refl
 
 pub host-both : (img xs ys us vs : List ℕ) {e : ℕ} {us' vs' xs' ys' : List ℕ} → shape_right img ≡ true → length us ≡ last_track img * per_track img
     → length vs ≡ length us → length xs ≡ 2 * length us → length ys ≡ 2 * length us → length us' ≡ length us → length vs' ≡ length vs

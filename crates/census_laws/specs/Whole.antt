@@ -1,4 +1,5 @@
 -- The census as the code makes it: what it leaves before a refusal fills the outputs, and that this comes to the census of rules.
+use Rattle.std.specs.Prelude.{Option, Some, None}
 use Rattle.std.specs.Prelude.{◌≡◌, Bool, ℕ, ◌+◌, ◌*◌, replicate}
 use Rattle.std.proofs.Math.Path.{refl, sym, ap, ap₂}
 use Rattle.std.proofs.Common.{◌∙◌}
@@ -22,8 +23,6 @@ use Rattle.census_laws.specs.Numbered.{files_numbered, numbered}
 use Rattle.census_laws.specs.Marks.{Marked, marked, marking, Marks, marking-once, once-short}
 use Rattle.laws.specs.Lent.{over-exact}
 use Rattle.census_laws.specs.Walks.{laid, chain_at, sectors, files, Lists, lists-kept, lists-not, lists-to, chain-lists, sectors-lists, files-lists}
-use Rattle.census_laws.specs.declared.Listing.{Listing}
-use Rattle.census_laws.specs.declared.Listing.TheVariants.{Many, Wrong}
 
 -- an answer and outputs, of which a refusal keeps the lengths alone: they are to be filled
 unfoldable pub mended : ℕ → List ℕ → List ℕ → Survey
@@ -68,17 +67,17 @@ module _ (img : List ℕ) (M S : ℕ) (xs ys : List ℕ) (shape : Shape M S) (lx
   refused e xs' ys' h p q = rw (ne_eqb e 0 h, p, q, lx, ly) refl
 
   -- the free chain
-  module _ {r : Listing} {xs₁ : List ℕ} (a : laid r xs₁ ≡ chain_at img M S free_slot xs 0) where
+  module _ {r : Option ℕ} {xs₁ : List ℕ} (a : laid r xs₁ ≡ chain_at img M S free_slot xs 0) where
     free-lists : Lists (free_right img M S) (numbers_from img S (free_count img) (first_free img)) xs 0 0 (chain_at img M S free_slot xs 0)
     unfolding chain_at free_right
     free-lists = chain-lists img M S (first_free img) (last_free img) (free_count img) xs 0
 
-    pub free-wrong : r ≡ Wrong → mended 44 xs₁ ys ≡ concluded img M S (chains_fault img M S)
+    pub free-wrong : r ≡ None → mended 44 xs₁ ys ≡ concluded img M S (chains_fault img M S)
     unfolding chains_fault
     free-wrong t = rw (lists-not free-lists a t) (refused 44 xs₁ ys (λ z. omega arith) (lists-kept free-lists a) refl)
 
     -- then the directory's own
-    module _ {m : ℕ} (t : r ≡ Many m) {k : ℕ} (c : k ≡ free_count img) {d : ℕ} {xs₂ : List ℕ} (o : laid (Many d) xs₂ ≡ sectors S (directory img M S) xs₁ k 0) where
+    module _ {m : ℕ} (t : r ≡ Some m) {k : ℕ} (c : k ≡ free_count img) {d : ℕ} {xs₂ : List ℕ} (o : laid (Some d) xs₂ ≡ sectors S (directory img M S) xs₁ k 0) where
       free-right : free_right img M S ≡ true
       free-right = (lists-to free-lists a t).0
 
@@ -86,19 +85,19 @@ module _ (img : List ℕ) (M S : ℕ) (xs ys : List ℕ) (shape : Shape M S) (lx
       own-listed = sectors-lists S (directory img M S) xs₁ k 0
 
       -- then the files
-      module _ {q : Listing} {xs₃ : List ℕ} (b : laid q xs₃ ≡ files img M S (slots img M S) xs₂ (k + d)) where
+      module _ {q : Option ℕ} {xs₃ : List ℕ} (b : laid q xs₃ ≡ files img M S (slots img M S) xs₂ (k + d)) where
         files-listed : Lists (files_right img M S (slots img M S)) (files_numbers img S (slots img M S)) xs₂ (k + d) (k + d) (files img M S (slots img M S) xs₂ (k + d))
         files-listed = files-lists img M S (slots img M S) xs₂ (k + d)
 
         kept : length xs₃ ≡ length xs
         kept = lists-kept files-listed b ∙ lists-kept own-listed o ∙ lists-kept free-lists a
 
-        pub files-wrong : q ≡ Wrong → mended 45 xs₃ ys ≡ concluded img M S (chains_fault img M S)
+        pub files-wrong : q ≡ None → mended 45 xs₃ ys ≡ concluded img M S (chains_fault img M S)
         unfolding chains_fault
         files-wrong z = rw (free-right, lists-not files-listed b z) (refused 45 xs₃ ys (λ w. omega arith) kept refl)
 
         -- then each once, and the owners
-        module _ {n : ℕ} (z : q ≡ Many n) {e : ℕ} {ys₁ : List ℕ} (g : ended e ys₁ ≡ ending img M S d n xs₃ ys) where
+        module _ {n : ℕ} (z : q ≡ Some n) {e : ℕ} {ys₁ : List ℕ} (g : ended e ys₁ ≡ ending img M S d n xs₃ ys) where
           files-right : files_right img M S (slots img M S) ≡ true
           files-right = (lists-to files-listed b z).0
 

@@ -1,5 +1,4 @@
--- Bytes written one behind the other, and what the census program prints.
-pub mod Written
+-- What the census program prints.
 pub mod Decimal
 pub mod Lines
 pub mod Printed

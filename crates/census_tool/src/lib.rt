@@ -1,192 +1,110 @@
 // What the census program prints, and the program: it reads an image from standard input and writes the census to standard output.
 #![tactic(auto)]
 
-ghost use Rattle.std.specs.Prelude.{◌≡◌, ◌+◌, ◌*◌, ◌≤◌, ◌<◌, length};
-ghost use Rattle.rules.specs.Text.{digit, decimal, line, lines, report, printed};
-ghost use Rattle.rules.specs.Bytes.{over, zeros};
+ghost use Rattle.std.specs.Prelude.{◌≡◌, ◌++◌, ◌+◌, ◌*◌, ◌≤◌, length};
+ghost use Rattle.rules.specs.Text.{decimal, line, lines, report, printed};
+ghost use Rattle.rules.specs.Bytes.{zeros};
+ghost use Rattle.rules.specs.Refusals.{number_of};
 ghost use Rattle.rules.specs.Census.{survey, census};
-ghost use Rattle.census_tool.specs.Written.{texted, written};
 
-use cells::{put, store};
+use arrayvec::ArrayString;
 use census::census;
-use chainwalk::data_sectors;
-use disk::{Shaped, shape_of};
+use disk::shape_of;
+use rules::refusal::Refusal;
 use std::io;
 use std::io::Read;
 
-// A digit as a letter.
-fn letter(n: u16) -> u8
-    ensures { result ≡ digit n }
+// As many data sectors as an image of 64,000 bytes can have.
+const MOST: usize = 250;
+
+// A text with nothing behind it.
+fn text<const CAP: usize>(s: &str) -> ArrayString<CAP>
+    requires { length s.now ≤ CAP }
+    ensures { result.bytes ≡ s.now }
 {
-    (48 + n % 10) as u8
+    let mut out = ArrayString::new();
+    out.push_str(s);
+    out
 }
 
-// A number in decimal from a place on; how many bytes that are.
-pub fn put_decimal(out: &mut [u8], at: usize, n: u16) -> usize
-    ensures { (texted result out.new ≡ written out.old at (decimal n)) × (result ≤ 5) }
+// A number in decimal.
+pub fn decimal(n: u16) -> ArrayString<5>
+    ensures { result.bytes ≡ decimal n }
 {
-    if n < 10 {
-        store(out, at, &[letter(n)]);
-        return 1;
+    text(itoa::Buffer::new().format(n))
+}
+
+// A line of two numbers.
+fn line(x: u16, y: u16) -> ArrayString<12>
+    ensures { result.bytes ≡ line x y }
+{
+    let mut out = text(&decimal(x));
+    out.push(' ');
+    out.push_str(&decimal(y));
+    out.push('\n');
+    out
+}
+
+// A line for each sector and its owner, put behind a text.
+fn push_lines(out: &mut ArrayString<4096>, sectors: &[u16], owners: &[u16])
+    requires { length out.old.bytes + 12 * length sectors.now ≤ 4096 }
+    ensures { out.new.bytes ≡ out.old.bytes ++ lines sectors.now owners.now }
+{
+    for (sector, owner) in sectors.iter().zip(owners) {
+        out.push_str(&line(*sector, *owner));
     }
-    if n < 100 {
-        store(out, at, &[letter(n / 10), letter(n)]);
-        return 2;
-    }
-    if n < 1000 {
-        store(out, at, &[letter(n / 10 / 10), letter(n / 10), letter(n)]);
-        return 3;
-    }
-    long_decimal(out, at, n)
 }
 
-// The same of a number of four or five digits.
-fn long_decimal(out: &mut [u8], at: usize, n: u16) -> usize
-    requires { 1000 ≤ n }
-    ensures { (texted result out.new ≡ written out.old at (decimal n)) × (result ≤ 5) }
-{
-    if n >= 10000 {
-        return five_digits(out, at, n);
-    }
-    store(
-        out,
-        at,
-        &[
-            letter(n / 10 / 10 / 10),
-            letter(n / 10 / 10),
-            letter(n / 10),
-            letter(n),
-        ],
-    );
-    4
-}
-
-// The same of a number of five digits.
-fn five_digits(out: &mut [u8], at: usize, n: u16) -> usize
-    requires { (10000 ≤ n) × (n < 100000) }
-    ensures { (texted result out.new ≡ written out.old at (decimal n)) × (result ≤ 5) }
-{
-    store(
-        out,
-        at,
-        &[
-            letter(n / 10 / 10 / 10 / 10),
-            letter(n / 10 / 10 / 10),
-            letter(n / 10 / 10),
-            letter(n / 10),
-            letter(n),
-        ],
-    );
-    5
-}
-
-// A line of two numbers from a place on; how many bytes that are.
-fn put_line(out: &mut [u8], at: u32, x: u16, y: u16) -> usize
-    ensures { (texted result out.new ≡ written out.old at (line x y)) × (result ≤ 12) }
-{
-    let i = at as usize;
-    let a = put_decimal(out, i, x);
-    put(out, i + a, 32);
-    let b = put_decimal(out, i + a + 1, y);
-    put(out, i + a + 1 + b, 10);
-    a + 1 + b + 1
-}
-
-// A line for each sector and its owner from a place on; how many bytes that are.
-fn put_lines(out: &mut [u8], at: u32, sectors: &[u16], owners: &[u16]) -> usize
-    requires { (length sectors.now ≤ 65536) × (at ≤ 131072) }
-    ensures { (texted result out.new ≡ written out.old at (lines sectors.now owners.now)) × (result ≤ 12 * length sectors.now) }
-{
-    let mut n = 0usize;
-    let mut i = 0;
-    while i < sectors.len() {
-        if owners.len() <= i {
-            return n;
-        }
-        let k = put_line(out, (at as usize + n) as u32, sectors[i], owners[i]);
-        n += k;
-        i += 1;
-    }
-    n
-}
-
-// What is printed of an answer and outputs, from a place on.
-fn put_report(out: &mut [u8], at: u16, answer: u8, sectors: &[u16], owners: &[u16]) -> usize
+// What is printed of an answer and outputs.
+fn report(answer: Result<(), Refusal>, sectors: &[u16], owners: &[u16]) -> ArrayString<4096>
     requires { length sectors.now ≤ 250 }
-    ensures { (texted result out.new ≡ written out.old at (report (survey answer sectors.now owners.now))) × (result ≤ 4096) }
+    ensures { result.bytes ≡ report (survey (number_of answer) sectors.now owners.now) }
 {
-    if answer != 0 {
-        return put_line(out, at as u32, answer as u16, 0);
+    match answer {
+        Ok(()) => {
+            let mut out = text(&line(0, sectors.len() as u16));
+            push_lines(&mut out, sectors, owners);
+            out
+        }
+        Err(e) => text(&line(e.number() as u16, 0)),
     }
-    let n = put_line(out, at as u32, answer as u16, sectors.len() as u16);
-    let k = put_lines(out, (at as usize + n) as u32, sectors, owners);
-    n + k
 }
 
 // What is printed of an image's census with these outputs.
-fn put_census(
-    out: &mut [u8],
-    at: u16,
-    image: &[u8],
-    sectors: &mut [u16],
-    owners: &mut [u16],
-) -> usize
+fn census_report(image: &[u8], sectors: &mut [u16], owners: &mut [u16]) -> ArrayString<4096>
     requires { length sectors.old ≤ 250 }
-    ensures { (texted result out.new ≡ written out.old at (report (census image.now sectors.old owners.old))) × (result ≤ 4096) }
+    ensures { result.bytes ≡ report (census image.now sectors.old owners.old) }
 {
     let answer = census(image, sectors, owners);
-    put_report(out, at, answer, sectors, owners)
-}
-
-// An output that is long enough for each image of at most 64,000 bytes.
-fn blank() -> [u16; 250]
-    ensures { result ≡ zeros 250 }
-{
-    [0u16; 250]
+    report(answer, sectors, owners)
 }
 
 // The same with outputs of n zeros.
-fn put_sized(out: &mut [u8], at: u16, image: &[u8], n: usize) -> usize
+fn sized_report(image: &[u8], n: usize) -> ArrayString<4096>
     requires { n ≤ 250 }
-    ensures { (texted result out.new ≡ written out.old at (report (census image.now (zeros n) (zeros n)))) × (result ≤ 4096) }
+    ensures { result.bytes ≡ report (census image.now (zeros n) (zeros n)) }
 {
-    let mut sectors = blank();
-    let mut owners = blank();
-    put_census(out, at, image, &mut sectors[..n], &mut owners[..n])
+    let mut sectors = [0u16; MOST];
+    let mut owners = [0u16; MOST];
+    census_report(image, &mut sectors[..n], &mut owners[..n])
 }
 
-// What is printed of an image.
-fn put_printed(out: &mut [u8], at: u16, image: &[u8]) -> usize
-    ensures { (texted result out.new ≡ written out.old at (printed image.now)) × (result ≤ 4096) }
+// What the census program prints of an image that it read.
+pub fn print(image: &[u8]) -> ArrayString<4096>
+    ensures { result.bytes ≡ printed image.now }
 {
     if image.len() > 64000 {
-        store(out, at as usize, b"too long\n");
-        return 9;
+        return text("too long\n");
     }
-    let shape = shape_of(image);
-    match shape {
-        Shaped::Right(s) => {
-            let last = s.last;
-            let per = s.per;
-            let n = data_sectors(last, per) as usize;
-            put_sized(out, at, image, n)
-        }
-        Shaped::Wrong => put_line(out, at as u32, 41, 0),
+    match shape_of(image) {
+        Some(shape) => sized_report(image, shape.data_sectors() as usize),
+        None => text(&line(41, 0)),
     }
-}
-
-// What the census program prints of an image that it read, stored from a place of a text on; how many bytes that are.
-pub fn print(image: &[u8], out: &mut [u8], at: u16) -> usize
-    ensures { (out.new ≡ over out.old at (printed image.now)) × (result ≡ length (printed image.now)) × (result ≤ 4096) }
-{
-    put_printed(out, at, image)
 }
 
 // The program: an image is read from standard input, up to 65,536 bytes of it, and what is to be printed is written to standard output.
 pub fn run(rt: &(impl Input + Print + Alloc)) -> io::Result<()> {
     let mut input = Vec::new(rt.alloc());
     rt.reader().take(65536).read_to_end(&mut input)?;
-    let mut out = [0u8; 4096];
-    let n = print(&input, &mut out, 0);
-    rt.write_all(&out[..n])
+    rt.write_all(print(&input).as_bytes())
 }

@@ -1,7 +1,7 @@
 -- The fakes: services that break the user's words, and so must not meet the demands. Each is ours with one thing changed, but for `refusing`
 -- and `idling`, which do nothing at all; in quotes, words of 01 or 02 that it breaks. At the end other orders of the stores of ours. That they fail is
 -- proved in crate `refuted`.
-use Rattle.std.specs.Prelude.{Bool, true, false, not, List, [], ◌∷◌, ◌++◌, ℕ, zero, suc, ◌+◌, ◌-◌, ◌*◌, ◌%◌, length, take, eqb, ltb}
+use Rattle.std.specs.Prelude.{Bool, true, false, not, List, [], ◌∷◌, ◌++◌, ℕ, zero, suc, ◌+◌, ◌-◌, ◌*◌, ◌%◌, length, take, eqb, ltb, Result, Ok, Err}
 use Rattle.rules.specs.Bytes.{pick, ◌and◌, byte_at, word_at, part, over, one, two, zeros}
 use Rattle.rules.specs.Image.{shape_right, last_track, per_track, index, adr, first_free, last_free, free_count}
 use Rattle.rules.specs.Directory.{never_used, named, first, live, size_at, directory, last_sector, slots, find, vacancy, attributes_at}
@@ -11,8 +11,8 @@ use Rattle.rules.specs.Outcome.{Out, out, Told as Reply, told as replied, says_o
 use Rattle.rules.specs.Block.{function_in, activity_in, name_in}
 use Rattle.rules.specs.Files.{read_protected}
 use Rattle.rules.specs.Census.{Survey, survey, directory_owner, files_right}
-use Rattle.rules.specs.declared.Lookup.{Lookup}
-use Rattle.rules.specs.declared.Lookup.TheVariants.{At, Missing, Broken}
+use Rattle.rules.specs.declared.NoSlot.{NoSlot}
+use Rattle.rules.specs.declared.NoSlot.TheVariants.{Missing, Broken}
 use Rattle.chains.specs.Once.{rising}
 use Rattle.demands.specs.Service.{Wanted, Service, flex, img_of}
 use Rattle.demands.specs.Demands.{survey_answer, data_sectors}
@@ -215,18 +215,18 @@ abbrev pub softening : Service
 softening = with_call (λ img tab n b. instead 5 true (refusal 4 img tab n) (flex.call img tab n b))
 
 -- the attributes of the slot that was found; the image with others there
-abbrev pub attributes_of : List ℕ → Lookup → ℕ
-attributes_of img (At o) = attributes_at img o
-attributes_of img Missing = 0
-attributes_of img Broken = 0
+abbrev pub attributes_of : List ℕ → Result ℕ NoSlot → ℕ
+attributes_of img (Ok o) = attributes_at img o
+attributes_of img (Err Missing) = 0
+attributes_of img (Err Broken) = 0
 
-abbrev pub with_attributes : ℕ → List ℕ → Lookup → List ℕ
-with_attributes v img (At o) = over img (o + 11) (one v)
-with_attributes v img Missing = img
-with_attributes v img Broken = img
+abbrev pub with_attributes : ℕ → List ℕ → Result ℕ NoSlot → List ℕ
+with_attributes v img (Ok o) = over img (o + 11) (one v)
+with_attributes v img (Err Missing) = img
+with_attributes v img (Err Broken) = img
 
 -- the slot that has the name of block n
-abbrev pub slot_of_name : List ℕ → List ℕ → ℕ → Lookup
+abbrev pub slot_of_name : List ℕ → List ℕ → ℕ → Result ℕ NoSlot
 slot_of_name img tab n = find img (last_track img) (per_track img) (name_in tab (320 * n))
 
 -- a file of attribute 32 is opened for read as if it had none. "Open for read gives 17 for such a file, after 4 and before 2"
@@ -284,10 +284,10 @@ abbrev pub doubling : Service
 doubling = harming (transfers 2) (λ img tab n m. over m 541 (part img 541 6))
 
 -- a rename empties the file. "New name to slot and FCB"
-abbrev pub emptied : List ℕ → Lookup → List ℕ
-emptied m (At o) = over m (o + 13) (zeros 6)
-emptied m Missing = m
-emptied m Broken = m
+abbrev pub emptied : List ℕ → Result ℕ NoSlot → List ℕ
+emptied m (Ok o) = over m (o + 13) (zeros 6)
+emptied m (Err Missing) = m
+emptied m (Err Broken) = m
 
 abbrev pub gutting : Service
 gutting = harming (asks_for 13) (λ img tab n m. emptied m (slot_of_name img tab n))
@@ -341,10 +341,10 @@ widening = with_call (λ img tab n b. pick (eqb (length tab) 2561) (out 0 0 img 
 -- ---- 02, "The directory grows"
 
 -- 02, "When no slot is left": open for write takes a sector for the directory
-abbrev pub is_missing : Lookup → Bool
-is_missing (At o) = false
-is_missing Missing = true
-is_missing Broken = false
+abbrev pub is_missing : Result ℕ NoSlot → Bool
+is_missing (Ok o) = false
+is_missing (Err Missing) = true
+is_missing (Err Broken) = false
 
 -- a call by which the directory grows
 abbrev pub grows_by : List ℕ → List ℕ → ℕ → Bool

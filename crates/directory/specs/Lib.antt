@@ -1,4 +1,4 @@
--- The scan's classifier, the extent of a directory, and what is proved of the promises of public functions.
-pub mod Sought
+-- What an iterator over a directory has left, its extent, and what is proved of the promises of public functions.
 pub mod Extents
+pub mod Walks
 pub mod Promises

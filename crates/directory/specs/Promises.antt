@@ -1,7 +1,9 @@
 -- No second outcome fits the promise of a public function of this crate.
 use Rattle.std.specs.Prelude.{List, ◌++◌, ℕ}
 use Rattle.rules.specs.Bytes.{part, over, one, two, same}
-use Rattle.rules.specs.Directory.{next_of, most_of_directory, directory_right, live, find, vacancy, placed, place_of}
+use Rattle.rules.specs.Stores.{stored}
+use Rattle.rules.specs.Transfer.{mark}
+use Rattle.rules.specs.Directory.{next_of, most_of_directory, directory_right, directory, slots, live, find, vacancy, placed, place_of}
 use Rattle.laws.specs.Single.{Single, single}
 use Rattle.laws.specs.Visits.{step_slot, most_slots}
 use Rattle.directory.specs.Extents.{extent_of}
@@ -14,6 +16,12 @@ most-of-single M S = single (most_of_directory M S)
 
 pub most-slots-single : (M S : ℕ) → Single (most_slots M S)
 most-slots-single M S = single (most_slots M S)
+
+pub sectors-single : (img : List ℕ) (M S : ℕ) → Single (directory img M S)
+sectors-single img M S = single (directory img M S)
+
+pub slots-single : (img : List ℕ) (M S : ℕ) → Single (slots img M S)
+slots-single img M S = single (slots img M S)
 
 pub directory-right-single : (img : List ℕ) (M S : ℕ) → Single (directory_right img M S)
 directory-right-single img M S = single (directory_right img M S)
@@ -41,3 +49,6 @@ step-slot-single img M S slot = single (step_slot img M S slot)
 
 pub put-place-single : (tab : List ℕ) (at S slot : ℕ) → Single (over tab at (place_of S slot))
 put-place-single tab at S slot = single (over tab at (place_of S slot))
+
+pub mark-single : (img : List ℕ) (slot : ℕ) → Single (stored img (mark slot))
+mark-single img slot = single (stored img (mark slot))

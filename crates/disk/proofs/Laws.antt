@@ -6,17 +6,17 @@ use Prim.Native.Nat.{ℕ, ◌+◌, ◌-◌, ◌*◌, ◌/◌, ◌%◌, ◌≤◌
 use native.Mathlib.Nat.{mul-le-mul, div-zero, mod-zero, div-le_self, mod-le}
 use native.Mathlib.Omega.{arith}
 use borrow.Rule.Slice.PartMut.{mid_of, put_mid}
-use lib.ListN.{length, get_or}
+use lib.ListN.{length, get_or, set, replicate}
 use lib.Dec.{eqb, leb}
 use borrow.Author.Tests.{le-leb, lt-leb, not-true, not-false}
-use Rattle.rules.specs.Bytes.{within, part, over, two}
+use Rattle.rules.specs.Bytes.{within, part, over, two, zeros}
 use Rattle.rules.specs.Stores.{store, stored}
-use Rattle.rules.specs.Image.{within_limits, shape_right, address_of}
-use Rattle.rules.specs.Transfer.{linked}
+use Rattle.rules.specs.Image.{within_limits, shape_right, address_of, track_of, sector_of, index, is_sector, is_data}
+use Rattle.rules.specs.Transfer.{fresh, linked}
 use Rattle.laws.specs.Bytes.{length_part}
 use Rattle.laws.specs.Lent.{over-within}
 use Rattle.disk.specs.Loaded.{is_shape, shape_of}
-use Rattle.disk.specs.declared.Shaped.TheVariants.{Right, Wrong}
+use Rattle.std.specs.Prelude.{Some, None}
 
 pub product : (x y : ℕ) → x ≤ 256 → y ≤ 255 → x * y ≤ 65280
 product x y h k = mul-le-mul h k
@@ -68,22 +68,48 @@ module _ (img : List ℕ) {r : Bool} {M S : ℕ} (e : r ≡ is_shape (length img
   unfolding is_shape shape_right
   is_right = rw (e, m, s) refl
 
-  pub shape-right : r ≡ true → Right (record { last = M; per = S }) ≡ shape_of img
+  pub shape-right : r ≡ true → Some (record { last = M; per = S }) ≡ shape_of img
   unfolding shape_of
   shape-right k = rw (← is_right, k, m, s) refl
 
-  pub shape-wrong : r ≡ false → Wrong ≡ shape_of img
+  pub shape-wrong : r ≡ false → None ≡ shape_of img
   unfolding shape_of
   shape-wrong k = rw (← is_right, k) refl
 
-module _ (img : List ℕ) (none : Bool) (k a : ℕ) where
-  pub link-none : none ≡ true → img ≡ stored img (linked none k a)
-  unfolding linked
-  link-none h = rw h refl
+-- an address by its two bytes, track and sector
+module _ (M S a : ℕ) {bs : List ℕ} (e : bs ≡ track_of a ∷ sector_of a ∷ []) where
+  pub index-is : {r : ℕ} → r ≡ get_or bs 0 0 * S + get_or bs 1 0 - 1 → r ≡ index S a
+  unfolding index
+  index-is h = h ∙ rw e refl
 
-  pub link-some : {d : List ℕ} → none ≡ false → d ≡ over img (256 * k) (two a) → d ≡ stored img (linked none k a)
-  unfolding linked
-  link-some h e = rw h (e ∙ ap (λ (n : ℕ). over img n (two a)) (omega arith))
+  pub past-tracks : M < get_or bs 0 0 → false ≡ is_sector M S a
+  unfolding is_sector
+  past-tracks h = rw (lt-leb (track_of a) M (rw e at h)) refl
+
+  pub no-sector : get_or bs 0 0 ≤ M → get_or bs 1 0 < 1 → leb 1 (get_or bs 1 0) ≡ is_sector M S a
+  unfolding is_sector within
+  no-sector h k = rw (lt-leb 1 (get_or bs 1 0) k, le-leb (track_of a) M (rw e at h), lt-leb 1 (sector_of a) (rw e at k)) refl
+
+  pub up-to-last : get_or bs 0 0 ≤ M → 1 ≤ get_or bs 1 0 → leb (get_or bs 1 0) S ≡ is_sector M S a
+  unfolding is_sector within
+  up-to-last h k = rw (le-leb (track_of a) M (rw e at h), le-leb 1 (sector_of a) (rw e at k), e) refl
+
+  pub track-none : get_or bs 0 0 < 1 → false ≡ is_data M S a
+  unfolding is_data within
+  track-none h = rw (lt-leb 1 (track_of a) (rw e at h)) refl
+
+  pub track-some : {r : Bool} → 1 ≤ get_or bs 0 0 → r ≡ is_sector M S a → r ≡ is_data M S a
+  unfolding is_data is_sector within
+  track-some h d = rw (le-leb 1 (track_of a) (rw e at h)) d
+
+pub fresh-stored : (m d bs : List ℕ) (at size : ℕ) → bs ≡ size / 256 % 256 ∷ size % 256 ∷ [] → d ≡ over m at (set (set (replicate 256 0) 2 (get_or bs 0 0)) 3 (get_or bs 1 0))
+    → d ≡ over m at (fresh size)
+unfolding fresh zeros
+fresh-stored m d bs at size e h = h ∙ rw e refl
+
+pub link-set : (img : List ℕ) (k a : ℕ) {d : List ℕ} → d ≡ over img (256 * k) (two a) → d ≡ stored img (linked false k a)
+unfolding linked
+link-set img k a e = e ∙ ap (λ (n : ℕ). over img n (two a)) (omega arith)
 
 -- the n bytes from i on of the sector whose 256 bytes begin at o
 bytes-stored : (m d tab : List ℕ) (o i n from : ℕ) → o + 256 ≤ length m → i + n ≤ 256 → d ≡ over (mid_of o (o + 256 - o) m) i (part tab from n)

@@ -2,3 +2,4 @@
 pub mod Loaded
 pub mod Shapes
 pub mod Promises
+pub mod Links

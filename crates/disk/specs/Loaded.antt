@@ -1,9 +1,8 @@
 -- The shape of an image and its free chain, as the structs that the code loads.
-use Rattle.std.specs.Prelude.{Bool, false, List, ℕ, ◌+◌, ◌*◌, eqb, leb}
+use Rattle.std.specs.Prelude.{Bool, false, Option, Some, None, List, ℕ, ◌+◌, ◌*◌, eqb, leb}
 use Rattle.rules.specs.Bytes.{pick}
 use Rattle.rules.specs.Image.{within_limits, last_track, per_track, shape_right, first_free, last_free, free_count}
-use Rattle.disk.specs.declared.Shaped.{Shaped}
-use Rattle.disk.specs.declared.Shaped.TheVariants.{Right, Wrong}
+use Rattle.disk.specs.declared.Shape.{Shape}
 use Rattle.disk.specs.declared.Free.{Free}
 
 -- what the shape asks of the length, M and S
@@ -16,8 +15,8 @@ is_shape n M S =
     false
 
 -- M and S, where the shape is right
-unfoldable pub shape_of : List ℕ → Shaped
-shape_of img = pick (shape_right img) (Right (record { last = last_track img; per = per_track img })) Wrong
+unfoldable pub shape_of : List ℕ → Option Shape
+shape_of img = pick (shape_right img) (Some (record { last = last_track img; per = per_track img })) None
 
 unfoldable pub free_of : List ℕ → Free
 free_of img = record { first = first_free img; last = last_free img; count = free_count img }

@@ -10,6 +10,9 @@ use Rattle.disk.specs.Loaded.{shape_of, free_of}
 pub sectors-single : (M S : ℕ) → Single ((M + 1) * S)
 sectors-single M S = single ((M + 1) * S)
 
+pub data-sectors-single : (M S : ℕ) → Single (M * S)
+data-sectors-single M S = single (M * S)
+
 pub within-limits-single : (M S : ℕ) → Single (within_limits M S)
 within-limits-single M S = single (within_limits M S)
 

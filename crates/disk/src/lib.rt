@@ -1,7 +1,7 @@
 // The image as a diskette: its shape, the addresses of sectors, the information record, sectors loaded and stored. All are total.
 #![tactic(auto)]
 
-ghost use Rattle.std.specs.Prelude.{◌≡◌, [], ◌∷◌, ◌+◌, ◌*◌, ◌≤◌};
+ghost use Rattle.std.specs.Prelude.{false, ◌≡◌, [], ◌∷◌, ◌+◌, ◌*◌, ◌≤◌};
 ghost use Rattle.rules.specs.Bytes.{part, over, six};
 ghost use Rattle.rules.specs.Stores.{store, stored};
 ghost use Rattle.rules.specs.Image.{within_limits, index, address_of, is_sector, is_data, link_of, info_sector, info_first};
@@ -10,32 +10,23 @@ ghost use Rattle.disk.specs.Loaded.{is_shape, shape_of, free_of};
 
 use cells::{copy, get, get2, put2, put6, store};
 
-// The last track and the sectors per track.
+mod diskette;
+
+pub use diskette::Diskette;
+
+// The last track and the sectors per track, any two numbers.
 #[derive(Clone, Copy)]
 pub struct Shape {
     pub last: u8,
     pub per: u8,
 }
 
-#[derive(Clone, Copy)]
-pub enum Shaped {
-    Right(Shape),
-    Wrong,
-}
-
 // The free chain, as the information record has it.
-#[derive(Clone, Copy)]
+#[derive(Clone, Copy, Default)]
 pub struct Free {
     pub first: u16,
     pub last: u16,
     pub count: u16,
-}
-
-// How many sectors there are.
-pub fn sectors(last: u8, per: u8) -> usize
-    ensures { (result ≡ (last + 1) * per) × (result ≤ 65280) }
-{
-    (last as usize + 1) * per as usize
 }
 
 // Are a last track and sectors per track within their limits?
@@ -54,85 +45,90 @@ pub fn within_limits(last: usize, per: usize) -> bool
     per <= 36
 }
 
-// Does a length fit a last track and sectors per track, and are both within their limits?
-fn is_shape(length: usize, last: u8, per: u8) -> bool
-    ensures { result ≡ is_shape length last per }
-{
-    if length < 552 {
-        return false;
-    }
-    let within = within_limits(last as usize, per as usize);
-    if !within {
-        return false;
-    }
-    let n = sectors(last, per);
-    length == n * 256
-}
-
 // The image's shape, if it is right.
-pub fn shape_of(image: &[u8]) -> Shaped
+pub fn shape_of(image: &[u8]) -> Option<Shape>
     ensures { result ≡ shape_of image.now }
 {
-    let last = get(image, 550);
-    let per = get(image, 551);
-    let right = is_shape(image.len(), last, per);
-    if right {
-        Shaped::Right(Shape { last, per })
+    let shape = Shape {
+        last: get(image, 550),
+        per: get(image, 551),
+    };
+    if shape.fits(image.len()) {
+        Some(shape)
     } else {
-        Shaped::Wrong
+        None
     }
 }
 
-// The index of the sector at an address.
-pub fn index_of(per: u8, a: u16) -> u16
-    ensures { result ≡ index per a }
-{
-    let n = a / 256 % 256 * per as u16 + a % 256;
-    if n == 0 {
-        return 0;
+impl Shape {
+    // Does a length fit it, and is it within the limits?
+    fn fits(self, length: usize) -> bool
+        ensures { result ≡ is_shape length self.last self.per }
+    {
+        if length < 552 {
+            return false;
+        }
+        if !within_limits(self.last as usize, self.per as usize) {
+            return false;
+        }
+        length == self.sectors() * 256
     }
-    n - 1
-}
 
-// The address of the sector with the index k. A number of two bytes where that sector is on a track up to 255.
-pub fn address_of(per: u8, k: u32) -> usize
-    ensures { result ≡ address_of per k }
-{
-    if per == 0 {
-        return k as usize + 1; // no track has a sector: what the rule gives by division by 0
+    // How many sectors there are.
+    pub fn sectors(self) -> usize
+        ensures { (result ≡ (self.last + 1) * self.per) × (result ≤ 65280) }
+    {
+        (self.last as usize + 1) * self.per as usize
     }
-    let track = k / per as u32;
-    let place = k % per as u32;
-    256 * track as usize + place as usize + 1
-}
 
-// Is there a sector at an address?
-pub fn is_sector(last: u8, per: u8, a: u16) -> bool
-    ensures { result ≡ is_sector last per a }
-{
-    if a / 256 % 256 > last as u16 {
-        return false;
+    // How many data sectors.
+    pub fn data_sectors(self) -> u16
+        ensures { result ≡ self.last * self.per }
+    {
+        self.last as u16 * self.per as u16
     }
-    if a % 256 < 1 {
-        return false;
-    }
-    a % 256 <= per as u16
-}
 
-// Is it a data sector?
-pub fn is_data(last: u8, per: u8, a: u16) -> bool
-    ensures { result ≡ is_data last per a }
-{
-    if a / 256 % 256 < 1 {
-        return false;
+    // The index of the sector at an address.
+    pub fn index_of(self, a: u16) -> u16
+        ensures { result ≡ index self.per a }
+    {
+        let [track, sector] = a.to_be_bytes();
+        (track as u16 * self.per as u16 + sector as u16).saturating_sub(1)
     }
-    if a / 256 % 256 > last as u16 {
-        return false;
+
+    // The address of the sector with the index k. A number of two bytes where that sector is on a track up to 255.
+    pub fn address_of(self, k: u32) -> usize
+        ensures { result ≡ address_of self.per k }
+    {
+        if self.per == 0 {
+            return k as usize + 1; // no track has a sector: what the rule gives by division by 0
+        }
+        let track = k / self.per as u32;
+        let place = k % self.per as u32;
+        256 * track as usize + place as usize + 1
     }
-    if a % 256 < 1 {
-        return false;
+
+    // Is there a sector at an address?
+    pub fn is_sector(self, a: u16) -> bool
+        ensures { result ≡ is_sector self.last self.per a }
+    {
+        let [track, sector] = a.to_be_bytes();
+        if track > self.last {
+            return false;
+        }
+        1 <= sector && sector <= self.per
     }
-    a % 256 <= per as u16
+
+    // Is it a data sector?
+    pub fn is_data(self, a: u16) -> bool
+        ensures { result ≡ is_data self.last self.per a }
+    {
+        let [track, _] = a.to_be_bytes();
+        if track < 1 {
+            return false;
+        }
+        self.is_sector(a)
+    }
 }
 
 // The link of the sector with the index k.
@@ -142,13 +138,10 @@ pub fn link_of(image: &[u8], k: u16) -> u16
     get2(image, 256 * k as usize)
 }
 
-// The link of the sector with the index k set to an address, unless there is no such sector.
-pub fn link(image: &mut [u8], none: bool, k: u16, a: u16)
-    ensures { image.new ≡ stored image.old (linked none k a) }
+// The link of the sector with the index k set to an address.
+pub fn link(image: &mut [u8], k: u16, a: u16)
+    ensures { image.new ≡ stored image.old (linked false k a) }
 {
-    if none {
-        return;
-    }
     put2(image, 256 * k as usize, a);
 }
 
@@ -218,7 +211,8 @@ pub fn fresh_sector(buffer: &mut [u8], at: usize, size: u16)
     ensures { buffer.new ≡ over buffer.old at (fresh size) }
 {
     let mut sector = [0u8; 256];
-    sector[2] = (size / 256 % 256) as u8;
-    sector[3] = (size % 256) as u8;
+    let [high, low] = size.to_be_bytes();
+    sector[2] = high;
+    sector[3] = low;
     store(buffer, at, &sector);
 }

@@ -1,33 +1,52 @@
--- Bytes read one by one are a part; what a slot's attributes say.
-use mathlib.Core.Path.{◌≡◌, refl}
-use mathlib.Core.List.{List, [], ◌∷◌}
+-- Bytes read are a part; what a slot's attributes say; an entry stored field by field.
+use mathlib.Core.Path.{◌≡◌, refl, sym, ap, ◌∙◌}
+use mathlib.Core.List.{List, ◌++◌}
 use Prim.Native.Nat.{ℕ, ◌+◌, ◌/◌, ◌%◌}
-use native.Mathlib.Nat.{add_assoc}
-use lib.ListN.{get_or}
+use native.Mathlib.Omega.{arith}
+use lib.ListN.{get_or, length, length-append}
 use lib.Dec.{eqb}
-use Rattle.rules.specs.Bytes.{part}
+use Rattle.rules.specs.Bytes.{part, over, one, two}
 use Rattle.rules.specs.Directory.{attributes_at}
 use Rattle.rules.specs.Files.{has_attribute}
+use Rattle.laws.specs.Bytes.{length_part, part-all, over-append}
+use Rattle.laws.specs.Lent.{over-exact}
+use Rattle.entries.specs.Entries.{bytes_of}
+use Rattle.entries.specs.Protections.{forbids, number_of}
+use Rattle.entries.specs.declared.Entry.{Entry}
+use Rattle.entries.specs.declared.Protection.{Protection}
+use Rattle.entries.specs.declared.Protection.TheVariants.{Write, Delete, Read}
 
-three : (m : List ℕ) (at : ℕ) → get_or m at 0 ∷ get_or m (at + 1) 0 ∷ get_or m (at + 2) 0 ∷ [] ≡ part m at 3
-unfolding part
-three m at = simp add_assoc
+pub bytes-read : (m b : List ℕ) (at n : ℕ) {d : List ℕ} → d ≡ over b 0 (part m at n) → length b ≡ n → d ≡ part m at n
+bytes-read m b at n e l = e ∙ over-exact b (part m at n) (length_part m at n ∙ sym l)
 
-eleven : (m : List ℕ) (at : ℕ)
-    → get_or m at 0 ∷ get_or m (at + 1) 0 ∷ get_or m (at + 2) 0 ∷ get_or m (at + 3) 0 ∷ get_or m (at + 4) 0 ∷ get_or m (at + 5) 0 ∷ get_or m (at + 6) 0
-    ∷ get_or m (at + 7) 0 ∷ get_or m (at + 8) 0 ∷ get_or m (at + 9) 0 ∷ get_or m (at + 10) 0 ∷ [] ≡ part m at 11
-unfolding part
-eleven m at = simp add_assoc
+forbids-is : (p : Protection) (attributes : ℕ) → forbids p attributes ≡ has_attribute (number_of p) attributes
+forbids-is Write attributes = refl
+forbids-is Delete attributes = refl
+forbids-is Read attributes = refl
 
-module _ (m : List ℕ) (at : ℕ) {a b c : ℕ} (p : a ≡ get_or m at 0) (q : b ≡ get_or m (at + 1) 0) (r : c ≡ get_or m (at + 2) 0) where
-  pub three-read : a ∷ b ∷ c ∷ [] ≡ part m at 3
-  three-read = rw (p, q, r) (three m at)
-
-  pub eleven-read : {d e f g h i j k : ℕ} → d ≡ get_or m (at + 3) 0 → e ≡ get_or m (at + 4) 0 → f ≡ get_or m (at + 5) 0 → g ≡ get_or m (at + 6) 0
-      → h ≡ get_or m (at + 7) 0 → i ≡ get_or m (at + 8) 0 → j ≡ get_or m (at + 9) 0 → k ≡ get_or m (at + 10) 0
-      → a ∷ b ∷ c ∷ d ∷ e ∷ f ∷ g ∷ h ∷ i ∷ j ∷ k ∷ [] ≡ part m at 11
-  eleven-read s t u v w x y z = rw (p, q, r, s, t, u, v, w, x, y, z) (eleven m at)
-
-pub attribute-read : (img : List ℕ) (slot wanted : ℕ) {a : ℕ} → a ≡ get_or img (slot + 11) 0 → eqb (a / wanted % 2) 1 ≡ has_attribute wanted (attributes_at img slot)
+pub attribute-read : (p : Protection) (img : List ℕ) (slot : ℕ) {a w : ℕ} → a ≡ get_or img (slot + 11) 0 → w ≡ number_of p → eqb (a / w % 2) 1 ≡ forbids p (attributes_at img slot)
 unfolding has_attribute
-attribute-read img slot wanted e = rw e refl
+attribute-read p img slot e q = rw (forbids-is p (attributes_at img slot), e, q) refl
+
+-- ---- stored field by field
+
+-- bytes stored behind others: one store of both
+behind : (m vs ws : List ℕ) (p q : ℕ) {d d' : List ℕ} → d ≡ over m p vs → p + length vs ≡ q → d' ≡ over d q ws → d' ≡ over m p (vs ++ ws)
+behind m vs ws p q {d} e k r =
+    r ∙ ap (λ (x : ℕ). over d x ws) (sym k) ∙ ap (λ (x : List ℕ). over x (p + length vs) ws) e ∙ sym (over-append m p vs ws)
+
+pub entry-stored : (m : List ℕ) (e : Entry) {n a b s t z c d o : List ℕ} → o ≡ over d 21 e.date → d ≡ over c 20 (one e.byte20)
+    → c ≡ over z 19 (one e.byte19) → z ≡ over t 17 (two e.size) → t ≡ over s 15 (two e.end) → s ≡ over b 13 (two e.start) → b ≡ over a 12 (one e.byte12)
+    → a ≡ over n 11 (one e.attributes) → n ≡ over m 0 e.name → length m ≡ 24 → length e.name ≡ 11 → length e.date ≡ 3 → o ≡ bytes_of e
+unfolding bytes_of one two
+entry-stored m e {n} {a} {b} {s} {t} {z} {c} po pd pc pz pt ps pb pa pn l ln ld =
+    rw (part-all e.name 11 ln, part-all e.date 3 ld) (
+    behind m e.name _ 0 11 pn (omega (arith, ln)) (
+    behind n (one e.attributes) _ 11 12 pa refl (
+    behind a (one e.byte12) _ 12 13 pb refl (
+    behind b (two e.start) _ 13 15 ps refl (
+    behind s (two e.end) _ 15 17 pt refl (
+    behind t (two e.size) _ 17 19 pz refl (
+    behind z (one e.byte19) _ 19 20 pc refl (
+    behind c (one e.byte20) _ 20 21 pd refl po)))))))
+    ∙ over-exact m _ (length-append e.name _ ∙ omega (arith, l, ln, ld)))

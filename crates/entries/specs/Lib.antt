@@ -1,3 +1,4 @@
--- A directory entry as a struct and as its bytes, and what is proved of the promises of public functions.
+-- A directory entry as a struct and as its bytes, protections, and what is proved of the promises of public functions.
 pub mod Entries
 pub mod Promises
+pub mod Protections

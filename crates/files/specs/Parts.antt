@@ -1,15 +1,17 @@
 -- Parts of the rules of functions, which functions of the code have for their promises.
-use Rattle.std.specs.Prelude.{true, false, List, [], ◌∷◌, ℕ, ◌/◌, ◌%◌, eqb, ltb}
+use Rattle.std.specs.Prelude.{true, false, List, [], ◌∷◌, ℕ, ◌/◌, ◌%◌, ltb, Result, Ok, Err}
 use Rattle.rules.specs.Bytes.{pick, part, one, two, zeros}
 use Rattle.rules.specs.Stores.{Store, store, Put, put}
 use Rattle.rules.specs.Image.{index}
 use Rattle.rules.specs.Directory.{most_of_directory, directory_right, first_of_directory, first_slot_of, find, vacancy, place_of, attributes_at}
+use Rattle.rules.specs.declared.refusal.Refusal.{Refusal}
+use Rattle.rules.specs.declared.refusal.Refusal.TheVariants.{BadWrite}
 use Rattle.rules.specs.Outcome.{Outcome, done, unless, when, on_slot, on_none, or_else}
 use Rattle.rules.specs.Block.{function_field, activity_field, name_field, position_field, place_field, compression_field, new_name_in, in_use}
 use Rattle.rules.specs.Transfer.{off_free, slot_in}
 use Rattle.rules.specs.Files.{opened, new_entry, grow, shown, write_protected, delete_protected, read_protected, remove}
 use Rattle.laws.specs.Visits.{step_slot}
-use Rattle.taking.specs.Take.{free_fault}
+use Rattle.taking.specs.Take.{free_sector}
 
 -- ---- 1 open read, 2 open write
 
@@ -39,9 +41,14 @@ open_write_at tab S f slot = done 0 (store (slot / 256) (slot % 256) (new_entry 
 unfoldable pub open_write_new : List ℕ → List ℕ → ℕ → ℕ → ℕ → Outcome
 open_write_new img tab M S f = or_else (vacancy img M S) 5 (grow img tab M S f) (open_write_at tab S f)
 
--- can a directory of n sectors grow? 0, or the number of the refusal
-unfoldable pub growth_fault : List ℕ → ℕ → ℕ → ℕ → ℕ
-growth_fault img M S n = pick (eqb (free_fault img M S) 0) (pick (ltb n (most_of_directory M S)) 0 10) (free_fault img M S)
+-- what is done with a sector that is given; a refusal stands
+abbrev pub if_ok : Result ℕ Refusal → (ℕ → Result ℕ Refusal) → Result ℕ Refusal
+if_ok (Ok a) next = next a
+if_ok (Err e) next = Err e
+
+-- the free sector by which a directory of n sectors grows, or why it does not
+unfoldable pub growth : List ℕ → ℕ → ℕ → ℕ → Result ℕ Refusal
+growth img M S n = if_ok (free_sector img M S) (λ new. pick (ltb n (most_of_directory M S)) (Ok new) (Err BadWrite))
 
 -- what a directory that grows stores before the new file's slot: the sector taken is at the address new, its last one has the index end
 unfoldable pub add_stores : List ℕ → ℕ → ℕ → ℕ → List Store

@@ -1,348 +1,344 @@
 // The functions on whole files and on the directory: open for reading and for writing, rewind, open directory, next slot, read
 // sector, delete, rename, on the block that begins at f. Each loads, tests in the rules' order and stores; byte 1 is the last store.
+// The table and f stay two parameters: why is told in `blocks`.
 #![tactic(auto)]
 
-ghost use Rattle.std.specs.Prelude.{◌≡◌, []};
+ghost use Rattle.std.specs.Prelude.{◌≡◌, [], true};
 ghost use Rattle.rules.specs.Bytes.{zeros, same};
 ghost use Rattle.rules.specs.Stores.{stored, puts};
+ghost use Rattle.rules.specs.Refusals.{number_of};
 ghost use Rattle.rules.specs.Outcome.{out, left, settled};
 ghost use Rattle.rules.specs.Block.{place_in};
 ghost use Rattle.rules.specs.Files.{open_read, grow, open_write, rewind, open_directory, shown, next_slot, read_sector, delete, rename};
-ghost use Rattle.files.specs.Parts.{opening, open_read_at, open_write_at, add_stores, growth_fault, open_write_new, first_slot, slot_after, further_slot, delete_at, renamed, rename_at};
+ghost use Rattle.blocks.specs.Activities.{activity_byte};
+ghost use Rattle.files.specs.Parts.{opening, open_read_at, open_write_at, add_stores, growth, open_write_new, first_slot, slot_after, further_slot, delete_at, renamed, rename_at};
 
-use blocks::{in_use, refuse};
+use blocks::{Activity, in_use, refuse};
 use cells::{clear, copy, get, get2, put, put2, store};
 use directory::{directory_right, extent_of, find, most_of, put_place, step_slot, vacancy};
-use disk::{free_of, index_of, is_sector, link, load_sector};
-use entries::{
-    is_delete_protected, is_read_protected, is_write_protected, name_at, new_entry, put_entry,
-};
+use disk::{Shape, link, load_sector};
+use entries::{Protection, bytes_at, is_protected, new_entry, put_entry};
 use names::legal_name;
 use removal::remove;
-use rules::Lookup;
+use rules::NoSlot;
 use rules::block::{
     ACTIVITY, BUFFER, COMPRESSION, ERROR, FUNCTION, INDEX, NAME, NEW_NAME, PLACE, POSITION,
 };
+use rules::place::FIRST_SLOT;
+use rules::refusal::Refusal;
 use rules::slot::SLOT_LENGTH;
-use taking::{free_fault, slot_of, take_off};
+use taking::{free_sector, slot_of, take_off};
 
 // What opening stores behind the entry.
-fn open_block(table: &mut [u8], per: u8, f: u16, activity: u8, slot: u32)
-    ensures { table.new ≡ puts table.old f (opening per activity slot) }
+fn open_block(table: &mut [u8], shape: Shape, f: u16, activity: Activity, slot: u32)
+    ensures { table.new ≡ puts table.old f (opening shape.per (activity_byte activity) slot) }
 {
     put(table, f as usize + FUNCTION, 0);
     clear(table, f as usize + POSITION, 6);
-    put(table, f as usize + ACTIVITY, activity);
-    put_place(table, f as usize + PLACE, per, slot);
+    put(table, f as usize + ACTIVITY, activity.byte());
+    put_place(table, f as usize + PLACE, shape, slot);
     put(table, f as usize + COMPRESSION, 255);
     put(table, f as usize + ERROR, 0);
 }
 
 // A slot opened for reading.
-fn open_read_at(image: &[u8], table: &mut [u8], per: u8, f: u16, slot: u32) -> u8
-    ensures { out result 0 image.now table.new ≡ left image.now table.old f (settled (open_read_at image.now table.old per slot)) }
+fn open_read_at(
+    image: &[u8],
+    table: &mut [u8],
+    shape: Shape,
+    f: u16,
+    slot: u32,
+) -> Result<(), Refusal>
+    ensures { out (number_of result) 0 image.now table.new ≡ left image.now table.old f (settled (open_read_at image.now table.old shape.per slot)) }
 {
-    let secret = is_read_protected(image, slot);
-    if secret {
-        return refuse(table, f, 17);
+    if is_protected(image, slot, Protection::Read) {
+        return Err(refuse(table, f, Refusal::ReadProtected));
     }
-    let used = in_use(false, table, per, slot);
-    if used {
-        return refuse(table, f, 2); // it is being written
+    if in_use(false, table, shape, slot) {
+        return Err(refuse(table, f, Refusal::InUse)); // it is being written
     }
     copy(table, f as usize + NAME, image, slot as usize, SLOT_LENGTH);
-    open_block(table, per, f, 1, slot);
-    0
+    open_block(table, shape, f, Activity::Reading, slot);
+    Ok(())
 }
 
 // 1 open read.
-pub fn open_read(image: &[u8], table: &mut [u8], last: u8, per: u8, f: u16) -> u8
-    ensures { out result 0 image.now table.new ≡ left image.now table.old f (settled (open_read image.now table.old last per f)) }
+pub fn open_read(image: &[u8], table: &mut [u8], shape: Shape, f: u16) -> Result<(), Refusal>
+    ensures { out (number_of result) 0 image.now table.new ≡ left image.now table.old f (settled (open_read image.now table.old shape.last shape.per f)) }
 {
-    let legal = legal_name(table, f as usize + NAME);
-    if !legal {
-        return refuse(table, f, 21);
+    if !legal_name(table, f as usize + NAME) {
+        return Err(refuse(table, f, Refusal::BadName));
     }
-    let found = find(image, last, per, table, f as usize + NAME);
-    match found {
-        Lookup::At(slot) => open_read_at(image, table, per, f, slot),
-        Lookup::Missing => refuse(table, f, 4),
-        Lookup::Broken => refuse(table, f, 5),
+    match find(image, shape, table, f as usize + NAME) {
+        Ok(slot) => open_read_at(image, table, shape, f, slot),
+        Err(NoSlot::Missing) => Err(refuse(table, f, Refusal::NotFound)),
+        Err(NoSlot::Broken) => Err(refuse(table, f, Refusal::NoDirectory)),
     }
 }
 
 // A new entry in a slot, opened for writing.
-fn open_write_at(image: &mut [u8], table: &mut [u8], per: u8, f: u16, slot: u32) -> u8
-    ensures { out result 0 image.new table.new ≡ left image.old table.old f (settled (open_write_at table.old per f slot)) }
+fn open_write_at(image: &mut [u8], table: &mut [u8], shape: Shape, f: u16, slot: u32)
+    ensures { out 0 0 image.new table.new ≡ left image.old table.old f (settled (open_write_at table.old shape.per f slot)) }
 {
     let entry = new_entry(table, f);
     put_entry(image, slot, entry);
     put_entry(table, f as u32 + 4, entry);
-    open_block(table, per, f, 2, slot);
-    0
+    open_block(table, shape, f, Activity::Writing, slot);
 }
 
 // A sector more for the directory, behind its last one: off the free chain, cleared, linked. Both sectors were read off the image
 // before, for on a damaged one a store may change what says where they are.
-fn add_sector(image: &mut [u8], per: u8, end: u16, new: u16)
-    ensures { image.new ≡ stored image.old (add_stores image.old per end new) }
+fn add_sector(image: &mut [u8], shape: Shape, end: u16, new: u16)
+    ensures { image.new ≡ stored image.old (add_stores image.old shape.per end new) }
 {
-    let k = index_of(per, new);
-    take_off(image, per);
+    let k = shape.index_of(new);
+    take_off(image, shape);
     clear(image, 256 * k as usize, 256);
-    link(image, false, end, new);
+    link(image, end, new);
 }
 
-// Can a directory of so many sectors grow by one from the free chain? 0, or the number of the refusal.
-fn growth_fault(image: &[u8], last: u8, per: u8, sectors: u16) -> u8
-    ensures { result ≡ growth_fault image.now last per sectors }
+// The free sector by which a directory of so many sectors grows, or why it does not.
+fn growth(image: &[u8], shape: Shape, sectors: u16) -> Result<u16, Refusal>
+    ensures { result ≡ growth image.now shape.last shape.per sectors }
 {
-    let fault = free_fault(image, last, per);
-    if fault != 0 {
-        return fault;
+    let new = free_sector(image, shape)?;
+    if sectors < most_of(shape) {
+        Ok(new)
+    } else {
+        Err(Refusal::BadWrite)
     }
-    let most = most_of(last, per);
-    if sectors < most {
-        return 0;
-    }
-    10
 }
 
 // The directory grown by a sector, whose first slot is opened for writing.
-fn grow(image: &mut [u8], table: &mut [u8], last: u8, per: u8, f: u16) -> u8
-    ensures { out result 0 image.new table.new ≡ left image.old table.old f (settled (grow image.old table.old last per f)) }
+fn grow(image: &mut [u8], table: &mut [u8], shape: Shape, f: u16) -> Result<(), Refusal>
+    ensures { out (number_of result) 0 image.new table.new ≡ left image.old table.old f (settled (grow image.old table.old shape.last shape.per f)) }
 {
-    let extent = extent_of(image, last, per);
-    let fault = growth_fault(image, last, per, extent.sectors);
-    if fault != 0 {
-        return refuse(table, f, fault);
+    let extent = extent_of(image, shape);
+    match growth(image, shape, extent.sectors) {
+        Ok(new) => {
+            let k = shape.index_of(new);
+            add_sector(image, shape, extent.end, new);
+            open_write_at(image, table, shape, f, 256 * k as u32 + 16);
+            Ok(())
+        }
+        Err(e) => Err(refuse(table, f, e)),
     }
-    let free = free_of(image);
-    let k = index_of(per, free.first);
-    add_sector(image, per, extent.end, free.first);
-    open_write_at(image, table, per, f, 256 * k as u32 + 16)
 }
 
 // A slot for a new name, opened for writing.
-fn open_write_new(image: &mut [u8], table: &mut [u8], last: u8, per: u8, f: u16) -> u8
-    ensures { out result 0 image.new table.new ≡ left image.old table.old f (settled (open_write_new image.old table.old last per f)) }
+fn open_write_new(image: &mut [u8], table: &mut [u8], shape: Shape, f: u16) -> Result<(), Refusal>
+    ensures { out (number_of result) 0 image.new table.new ≡ left image.old table.old f (settled (open_write_new image.old table.old shape.last shape.per f)) }
 {
-    let found = vacancy(image, last, per);
-    match found {
-        Lookup::At(slot) => open_write_at(image, table, per, f, slot),
-        Lookup::Missing => grow(image, table, last, per, f),
-        Lookup::Broken => refuse(table, f, 5),
+    match vacancy(image, shape) {
+        Ok(slot) => {
+            open_write_at(image, table, shape, f, slot);
+            Ok(())
+        }
+        Err(NoSlot::Missing) => grow(image, table, shape, f),
+        Err(NoSlot::Broken) => Err(refuse(table, f, Refusal::NoDirectory)),
     }
 }
 
 // 2 open write.
-pub fn open_write(image: &mut [u8], table: &mut [u8], last: u8, per: u8, f: u16) -> u8
-    ensures { out result 0 image.new table.new ≡ left image.old table.old f (settled (open_write image.old table.old last per f)) }
+pub fn open_write(image: &mut [u8], table: &mut [u8], shape: Shape, f: u16) -> Result<(), Refusal>
+    ensures { out (number_of result) 0 image.new table.new ≡ left image.old table.old f (settled (open_write image.old table.old shape.last shape.per f)) }
 {
-    let legal = legal_name(table, f as usize + NAME);
-    if !legal {
-        return refuse(table, f, 21);
+    if !legal_name(table, f as usize + NAME) {
+        return Err(refuse(table, f, Refusal::BadName));
     }
-    let found = find(image, last, per, table, f as usize + NAME);
-    match found {
-        Lookup::At(_) => refuse(table, f, 3),
-        Lookup::Missing => open_write_new(image, table, last, per, f),
-        Lookup::Broken => refuse(table, f, 5),
+    match find(image, shape, table, f as usize + NAME) {
+        Ok(_) => Err(refuse(table, f, Refusal::Exists)),
+        Err(NoSlot::Missing) => open_write_new(image, table, shape, f),
+        Err(NoSlot::Broken) => Err(refuse(table, f, Refusal::NoDirectory)),
     }
 }
 
 // 5 rewind.
-pub fn rewind(table: &mut [u8], f: u16) -> u8
-    ensures { out result 0 [] table.new ≡ left [] table.old f (settled rewind) }
+pub fn rewind(table: &mut [u8], f: u16)
+    ensures { out 0 0 [] table.new ≡ left [] table.old f (settled rewind) }
 {
     put(table, f as usize + FUNCTION, 0);
     put2(table, f as usize + POSITION, 0);
     put(table, f as usize + INDEX, 0);
     put(table, f as usize + ERROR, 0);
-    0
 }
 
 // 6 open directory.
-pub fn open_directory(table: &mut [u8], f: u16) -> u8
-    ensures { out result 0 [] table.new ≡ left [] table.old f (settled open_directory) }
+pub fn open_directory(table: &mut [u8], f: u16)
+    ensures { out 0 0 [] table.new ≡ left [] table.old f (settled open_directory) }
 {
-    put(table, f as usize + ACTIVITY, 16);
+    put(table, f as usize + ACTIVITY, Activity::Directory as u8);
     clear(table, f as usize + PLACE, 3);
     put(table, f as usize + ERROR, 0);
-    0
 }
 
 // A slot shown in the block, and its place.
-fn show(image: &[u8], table: &mut [u8], per: u8, f: u16, slot: u32) -> u8
-    ensures { out result 0 image.now table.new ≡ left image.now table.old f (settled (shown image.now per slot)) }
+fn show(image: &[u8], table: &mut [u8], shape: Shape, f: u16, slot: u32)
+    ensures { out 0 0 image.now table.new ≡ left image.now table.old f (settled (shown image.now shape.per slot)) }
 {
-    put_place(table, f as usize + PLACE, per, slot);
+    put_place(table, f as usize + PLACE, shape, slot);
     copy(table, f as usize + NAME, image, slot as usize, SLOT_LENGTH);
     put(table, f as usize + ERROR, 0);
-    0
 }
 
 // Is the block's place 0,0,0?
 fn is_before_first(table: &[u8], f: u16) -> bool
     ensures { result ≡ same (place_in table.now f) (zeros 3) }
 {
-    let track = get(table, f as usize + PLACE);
-    if track != 0 {
-        return false;
-    }
-    let sector = get(table, f as usize + PLACE + 1);
-    if sector != 0 {
-        return false;
-    }
-    let displacement = get(table, f as usize + PLACE + 1 + 1);
-    if displacement != 0 {
-        return false;
-    }
-    true
+    let place: [u8; 3] = bytes_at(table, f as usize + PLACE);
+    place == [0; 3]
 }
 
 // The directory's first slot shown.
-fn first_slot(image: &[u8], table: &mut [u8], last: u8, per: u8, f: u16) -> u8
-    ensures { out result 0 image.now table.new ≡ left image.now table.old f (settled (first_slot image.now last per)) }
+fn first_slot(image: &[u8], table: &mut [u8], shape: Shape, f: u16) -> Result<(), Refusal>
+    ensures { out (number_of result) 0 image.now table.new ≡ left image.now table.old f (settled (first_slot image.now shape.last shape.per)) }
 {
-    let right = directory_right(image, last, per);
-    if !right {
-        return refuse(table, f, 5);
+    if !directory_right(image, shape) {
+        return Err(refuse(table, f, Refusal::NoDirectory));
     }
-    show(image, table, per, f, 256 * 4 + 16)
+    show(image, table, shape, f, FIRST_SLOT);
+    Ok(())
 }
 
 // The slot behind a slot shown.
-fn slot_after(image: &[u8], table: &mut [u8], last: u8, per: u8, f: u16, slot: u32) -> u8
-    ensures { out result 0 image.now table.new ≡ left image.now table.old f (settled (slot_after image.now last per slot)) }
+fn slot_after(
+    image: &[u8],
+    table: &mut [u8],
+    shape: Shape,
+    f: u16,
+    slot: u32,
+) -> Result<(), Refusal>
+    ensures { out (number_of result) 0 image.now table.new ≡ left image.now table.old f (settled (slot_after image.now shape.last shape.per slot)) }
 {
-    let next = step_slot(image, last, per, slot);
-    match next {
-        Lookup::At(after) => show(image, table, per, f, after),
-        Lookup::Missing => refuse(table, f, 8),
-        Lookup::Broken => refuse(table, f, 5),
+    match step_slot(image, shape, slot) {
+        Ok(after) => {
+            show(image, table, shape, f, after);
+            Ok(())
+        }
+        Err(NoSlot::Missing) => Err(refuse(table, f, Refusal::AtEnd)),
+        Err(NoSlot::Broken) => Err(refuse(table, f, Refusal::NoDirectory)),
     }
 }
 
 // The slot behind the block's place shown.
-fn further_slot(image: &[u8], table: &mut [u8], last: u8, per: u8, f: u16) -> u8
-    ensures { out result 0 image.now table.new ≡ left image.now table.old f (settled (further_slot image.now table.old last per f)) }
+fn further_slot(image: &[u8], table: &mut [u8], shape: Shape, f: u16) -> Result<(), Refusal>
+    ensures { out (number_of result) 0 image.now table.new ≡ left image.now table.old f (settled (further_slot image.now table.old shape.last shape.per f)) }
 {
-    let here = slot_of(image, table, last, per, f);
-    match here {
-        Lookup::At(slot) => slot_after(image, table, last, per, f, slot),
-        Lookup::Missing => refuse(table, f, 5),
-        Lookup::Broken => refuse(table, f, 5),
+    match slot_of(image, table, shape, f) {
+        Ok(slot) => slot_after(image, table, shape, f, slot),
+        Err(_) => Err(refuse(table, f, Refusal::NoDirectory)),
     }
 }
 
 // 7 next slot.
-pub fn next_slot(image: &[u8], table: &mut [u8], last: u8, per: u8, f: u16) -> u8
-    ensures { out result 0 image.now table.new ≡ left image.now table.old f (settled (next_slot image.now table.old last per f)) }
+pub fn next_slot(image: &[u8], table: &mut [u8], shape: Shape, f: u16) -> Result<(), Refusal>
+    ensures { out (number_of result) 0 image.now table.new ≡ left image.now table.old f (settled (next_slot image.now table.old shape.last shape.per f)) }
 {
-    let first = is_before_first(table, f);
-    if first {
-        return first_slot(image, table, last, per, f);
+    if is_before_first(table, f) {
+        return first_slot(image, table, shape, f);
     }
-    further_slot(image, table, last, per, f)
+    further_slot(image, table, shape, f)
 }
 
 // 9 read sector.
-pub fn read_sector(image: &[u8], table: &mut [u8], last: u8, per: u8, f: u16) -> u8
-    ensures { out result 0 image.now table.new ≡ left image.now table.old f (settled (read_sector image.now table.old last per f)) }
+pub fn read_sector(image: &[u8], table: &mut [u8], shape: Shape, f: u16) -> Result<(), Refusal>
+    ensures { out (number_of result) 0 image.now table.new ≡ left image.now table.old f (settled (read_sector image.now table.old shape.last shape.per f)) }
 {
     let a = get2(table, f as usize + POSITION);
-    let there = is_sector(last, per, a);
-    if !there {
-        return refuse(table, f, 9);
+    if !shape.is_sector(a) {
+        return Err(refuse(table, f, Refusal::BadRead));
     }
-    load_sector(table, f as usize + BUFFER, image, index_of(per, a));
+    load_sector(table, f as usize + BUFFER, image, shape.index_of(a));
     put(table, f as usize + ERROR, 0);
-    0
+    Ok(())
 }
 
 // A file deleted, once its slot is found.
-fn delete_at(image: &mut [u8], table: &mut [u8], last: u8, per: u8, f: u16, slot: u32) -> u8
-    ensures { out result 0 image.new table.new ≡ left image.old table.old f (settled (delete_at image.old table.old last per slot)) }
+fn delete_at(
+    image: &mut [u8],
+    table: &mut [u8],
+    shape: Shape,
+    f: u16,
+    slot: u32,
+) -> Result<(), Refusal>
+    ensures { out (number_of result) 0 image.new table.new ≡ left image.old table.old f (settled (delete_at image.old table.old shape.last shape.per slot)) }
 {
-    let used = in_use(true, table, per, slot);
-    if used {
-        return refuse(table, f, 2);
+    let open = in_use(true, table, shape, slot);
+    if open {
+        return Err(refuse(table, f, Refusal::InUse));
     }
-    let kept = is_delete_protected(image, slot);
-    if kept {
-        return refuse(table, f, 12);
+    if is_protected(image, slot, Protection::Delete) {
+        return Err(refuse(table, f, Refusal::DeleteProtected));
     }
-    let fixed = is_write_protected(image, slot);
-    if fixed {
-        return refuse(table, f, 11);
+    if is_protected(image, slot, Protection::Write) {
+        return Err(refuse(table, f, Refusal::WriteProtected));
     }
-    remove(image, table, last, per, f, slot)
+    remove(image, table, shape, f, slot)
 }
 
 // 12 delete.
-pub fn delete(image: &mut [u8], table: &mut [u8], last: u8, per: u8, f: u16) -> u8
-    ensures { out result 0 image.new table.new ≡ left image.old table.old f (settled (delete image.old table.old last per f)) }
+pub fn delete(image: &mut [u8], table: &mut [u8], shape: Shape, f: u16) -> Result<(), Refusal>
+    ensures { out (number_of result) 0 image.new table.new ≡ left image.old table.old f (settled (delete image.old table.old shape.last shape.per f)) }
 {
-    let legal = legal_name(table, f as usize + NAME);
-    if !legal {
-        return refuse(table, f, 21);
+    if !legal_name(table, f as usize + NAME) {
+        return Err(refuse(table, f, Refusal::BadName));
     }
-    let found = find(image, last, per, table, f as usize + NAME);
-    match found {
-        Lookup::At(slot) => delete_at(image, table, last, per, f, slot),
-        Lookup::Missing => refuse(table, f, 4),
-        Lookup::Broken => refuse(table, f, 5),
+    match find(image, shape, table, f as usize + NAME) {
+        Ok(slot) => delete_at(image, table, shape, f, slot),
+        Err(NoSlot::Missing) => Err(refuse(table, f, Refusal::NotFound)),
+        Err(NoSlot::Broken) => Err(refuse(table, f, Refusal::NoDirectory)),
     }
 }
 
 // The new name stored in slot and block.
-fn store_name(image: &mut [u8], table: &mut [u8], f: u16, slot: u32) -> u8
-    ensures { out result 0 image.new table.new ≡ left image.old table.old f (settled (renamed table.old f slot)) }
+fn store_name(image: &mut [u8], table: &mut [u8], f: u16, slot: u32)
+    ensures { out 0 0 image.new table.new ≡ left image.old table.old f (settled (renamed table.old f slot)) }
 {
-    let name = name_at(table, f as usize + NEW_NAME);
+    let name: [u8; 11] = bytes_at(table, f as usize + NEW_NAME);
     store(image, slot as usize, &name);
     store(table, f as usize + NAME, &name);
     put(table, f as usize + ERROR, 0);
-    0
 }
 
 // A file renamed, once its slot is found.
-fn rename_at(image: &mut [u8], table: &mut [u8], last: u8, per: u8, f: u16, slot: u32) -> u8
-    ensures { out result 0 image.new table.new ≡ left image.old table.old f (settled (rename_at image.old table.old last per f slot)) }
+fn rename_at(
+    image: &mut [u8],
+    table: &mut [u8],
+    shape: Shape,
+    f: u16,
+    slot: u32,
+) -> Result<(), Refusal>
+    ensures { out (number_of result) 0 image.new table.new ≡ left image.old table.old f (settled (rename_at image.old table.old shape.last shape.per f slot)) }
 {
-    let busy = in_use(true, table, per, slot);
-    if busy {
-        return refuse(table, f, 2);
+    if in_use(true, table, shape, slot) {
+        return Err(refuse(table, f, Refusal::InUse));
     }
-    let fixed = is_write_protected(image, slot);
-    if fixed {
-        return refuse(table, f, 11);
+    if is_protected(image, slot, Protection::Write) {
+        return Err(refuse(table, f, Refusal::WriteProtected));
     }
-    let found = find(image, last, per, table, f as usize + NEW_NAME);
-    match found {
-        Lookup::At(_) => refuse(table, f, 3), // its own name too
-        Lookup::Missing => store_name(image, table, f, slot),
-        Lookup::Broken => refuse(table, f, 5),
+    match find(image, shape, table, f as usize + NEW_NAME) {
+        Ok(_) => Err(refuse(table, f, Refusal::Exists)), // its own name too
+        Err(NoSlot::Missing) => {
+            store_name(image, table, f, slot);
+            Ok(())
+        }
+        Err(NoSlot::Broken) => Err(refuse(table, f, Refusal::NoDirectory)),
     }
 }
 
 // 13 rename.
-pub fn rename(image: &mut [u8], table: &mut [u8], last: u8, per: u8, f: u16) -> u8
-    ensures { out result 0 image.new table.new ≡ left image.old table.old f (settled (rename image.old table.old last per f)) }
+pub fn rename(image: &mut [u8], table: &mut [u8], shape: Shape, f: u16) -> Result<(), Refusal>
+    ensures { out (number_of result) 0 image.new table.new ≡ left image.old table.old f (settled (rename image.old table.old shape.last shape.per f)) }
 {
-    let legal = legal_name(table, f as usize + NAME);
-    if !legal {
-        return refuse(table, f, 21);
+    if !legal_name(table, f as usize + NAME) {
+        return Err(refuse(table, f, Refusal::BadName));
     }
-    let proper = legal_name(table, f as usize + NEW_NAME);
-    if !proper {
-        return refuse(table, f, 21);
+    if !legal_name(table, f as usize + NEW_NAME) {
+        return Err(refuse(table, f, Refusal::BadName));
     }
-    let found = find(image, last, per, table, f as usize + NAME);
-    match found {
-        Lookup::At(slot) => rename_at(image, table, last, per, f, slot),
-        Lookup::Missing => refuse(table, f, 4),
-        Lookup::Broken => refuse(table, f, 5),
+    match find(image, shape, table, f as usize + NAME) {
+        Ok(slot) => rename_at(image, table, shape, f, slot),
+        Err(NoSlot::Missing) => Err(refuse(table, f, Refusal::NotFound)),
+        Err(NoSlot::Broken) => Err(refuse(table, f, Refusal::NoDirectory)),
     }
 }

@@ -1,6 +1,6 @@
 // The seven entries as a host program in C or Rust reaches them: numbers and byte slices, each slice a pointer and its length. Each calls the
 // function of its name in the crate flex and promises the same; nothing else stands here. The prototypes are in host/flex.h, the archive is
-// libflex.a.
+// libflex.a. The C interface needs the numbers and the row of parameters as they are.
 #![tactic(auto)]
 
 ghost use Rattle.flex.specs.Promised.{PresetPromise, ExtensionPromise, CallPromise, CensusPromise, TextPromise, FormatPromise, RepairPromise};

@@ -1,87 +1,107 @@
--- Laws of the codes and activities, one for each way out of the code's tests.
+-- Laws of the codes and activities: what is served, what a function takes.
 use mathlib.Core.Path.{◌≡◌, refl}
 use mathlib.Core.Bool.{Bool, true, false}
-use Prim.Native.Nat.{ℕ, ◌≤◌, ◌<◌}
+use mathlib.Core.Logic.{◌⊎◌, inl, inr}
+use Prim.Native.Nat.{ℕ}
 use native.Mathlib.Omega.{arith}
-use lib.Dec.{eqb, leb}
-use borrow.Author.Tests.{ne_eqb, le-leb, lt-leb}
+use lib.Dec.{eqb}
+use borrow.Author.Tests.{ne_eqb}
 use Rattle.rules.specs.Bytes.{within}
 use Rattle.rules.specs.Block.{idle}
-use Rattle.rules.specs.Call.{served, fits}
-use Rattle.laws.specs.Tests.{within-is}
+use Rattle.rules.specs.Call.{served, fits, misfit}
+use Rattle.laws.specs.Tests.{pick_all, either, within-is}
+use Rattle.fms.specs.declared.function.Function.{Function}
+use Rattle.fms.specs.declared.function.Function.TheVariants.{Transfer, OpenRead, OpenWrite, Close, Rewind, OpenDirectory, NextSlot, PutSlot, ReadSector, WriteSector, Delete, Rename}
+use Rattle.fms.specs.Functions.{function_byte}
 
--- ---- served: the ranges of a byte
+-- ---- a code that is none of the twelve
 
-module _ (b : ℕ) where
-  pub served-0 : b < 3 → true ≡ served b
-  unfolding served within
-  served-0 h = rw (le-leb 0 b (omega arith), le-leb b 2 (omega arith)) refl
+pub unserved : (c : ℕ) → (c ≡ 0 → ⊥) → (c ≡ 1 → ⊥) → (c ≡ 2 → ⊥) → (c ≡ 4 → ⊥) → (c ≡ 5 → ⊥) → (c ≡ 6 → ⊥) → (c ≡ 7 → ⊥) → (c ≡ 8 → ⊥) → (c ≡ 9 → ⊥) → (c ≡ 10 → ⊥) → (c ≡ 12 → ⊥)
+    → (c ≡ 13 → ⊥) → served c ≡ false
+unfolding served
+unserved c h0 h1 h2 h4 h5 h6 h7 h8 h9 h10 h12 h13 = go (served c) refl
+  where
+    go : (b : Bool) → served c ≡ b → b ≡ false
+    go false e = refl
+    go true e =
+        either (within 0 2 c) _ e (λ k. absurd (omega (arith, within-is 0 2 c k)))
+        (λ k. either (within 4 10 c) (within 12 13 c) k (λ m. absurd (omega (arith, within-is 4 10 c m))) (λ m. absurd (omega (arith, within-is 12 13 c m))))
 
-  pub served-3 : 3 ≤ b → b < 4 → false ≡ served b
-  unfolding served within
-  served-3 h k =
-      let e : b ≡ 3 = omega arith in
-      rw e refl
-
-  pub served-4 : 4 ≤ b → b < 11 → true ≡ served b
-  unfolding served within
-  served-4 h k = rw (le-leb 0 b (omega arith), lt-leb b 2 (omega arith), le-leb 4 b h, le-leb b 10 (omega arith)) refl
-
-  pub served-11 : 11 ≤ b → b < 12 → false ≡ served b
-  unfolding served within
-  served-11 h k =
-      let e : b ≡ 11 = omega arith in
-      rw e refl
-
-  -- from 12 on
-  late : 12 ≤ b → served b ≡ leb b 13
-  unfolding served within
-  late h = rw (le-leb 0 b (omega arith), lt-leb b 2 (omega arith), le-leb 4 b (omega arith), lt-leb b 10 (omega arith), le-leb 12 b h) refl
-
-  pub served-12 : 12 ≤ b → b < 14 → true ≡ served b
-  served-12 h k = rw (late h, le-leb b 13 (omega arith)) refl
-
-  pub served-14 : 14 ≤ b → false ≡ served b
-  served-14 h = rw (late (omega arith), lt-leb b 13 (omega arith)) refl
-
-pub ruleset codes = (served-0, served-3, served-4, served-11, served-12, served-14)
+pub is-served : (g : Function) {c : ℕ} → function_byte g ≡ c → served c ≡ true
+unfolding served within
+is-served Transfer e = rw (← e) refl
+is-served OpenRead e = rw (← e) refl
+is-served OpenWrite e = rw (← e) refl
+is-served Close e = rw (← e) refl
+is-served Rewind e = rw (← e) refl
+is-served OpenDirectory e = rw (← e) refl
+is-served NextSlot e = rw (← e) refl
+is-served PutSlot e = rw (← e) refl
+is-served ReadSector e = rw (← e) refl
+is-served WriteSector e = rw (← e) refl
+is-served Delete e = rw (← e) refl
+is-served Rename e = rw (← e) refl
 
 -- ---- the activities that a function takes
 
--- neither next slot nor put slot
-slots-not : (code : ℕ) → (code ≡ 7 → ⊥) → (code ≡ 8 → ⊥) → within 7 8 code ≡ false
-slots-not code h k = go (within 7 8 code) refl
-  where
-    go : (b : Bool) → within 7 8 code ≡ b → b ≡ false
-    go false e = refl
-    go true e = absurd (omega (arith, within-is 7 8 code e))
-
-module _ (code act : ℕ) {r : Bool} where
-  pub fits-0 : code ≡ 0 → r ≡ within 1 2 act → r ≡ fits code act
+module _ (g : Function) (act : ℕ) {r : Bool} where
+  pub file-fits : g ≡ Transfer → r ≡ within 1 2 act → r ≡ fits (function_byte g) act
   unfolding fits
-  fits-0 e h = rw e h
+  file-fits e h = rw e h
 
-  pub fits-4-file : code ≡ 4 → r ≡ within 1 2 act → r ≡ true → true ≡ fits code act
+  pub close-fits : g ≡ Close → r ≡ within 1 2 act → r ≡ true → r ≡ fits (function_byte g) act
   unfolding fits
-  fits-4-file e h k = rw (e, ← h, k) refl
+  close-fits e h k = rw (e, ← h, k) refl
 
-  pub fits-4-other : code ≡ 4 → r ≡ within 1 2 act → r ≡ false → eqb act 16 ≡ fits code act
+  pub close-other : g ≡ Close → r ≡ within 1 2 act → r ≡ false → eqb act 16 ≡ fits (function_byte g) act
   unfolding fits
-  fits-4-other e h k = rw (e, ← h, k) refl
+  close-other e h k = rw (e, ← h, k) refl
 
-  pub fits-other : (code ≡ 0 → ⊥) → (code ≡ 4 → ⊥) → (code ≡ 5 → ⊥) → (code ≡ 7 → ⊥) → (code ≡ 8 → ⊥) → r ≡ idle act → r ≡ fits code act
-  unfolding fits
-  fits-other a b c d e h = rw (ne_eqb code 0 a, ne_eqb code 4 b, ne_eqb code 5 c, slots-not code d e) h
-
-module _ (code act : ℕ) where
-  pub fits-5 : code ≡ 5 → eqb act 1 ≡ fits code act
-  unfolding fits
-  fits-5 e = rw e refl
-
-  pub fits-7 : code ≡ 7 → eqb act 16 ≡ fits code act
+  pub idle-fits : (g ≡ OpenRead) ⊎ (g ≡ OpenWrite) ⊎ (g ≡ OpenDirectory) ⊎ (g ≡ ReadSector) ⊎ (g ≡ WriteSector) ⊎ (g ≡ Delete) ⊎ (g ≡ Rename)
+      → r ≡ idle act → r ≡ fits (function_byte g) act
   unfolding fits within
-  fits-7 e = rw e refl
+  idle-fits (inl e) h = rw e h
+  idle-fits (inr (inl e)) h = rw e h
+  idle-fits (inr (inr (inl e))) h = rw e h
+  idle-fits (inr (inr (inr (inl e)))) h = rw e h
+  idle-fits (inr (inr (inr (inr (inl e))))) h = rw e h
+  idle-fits (inr (inr (inr (inr (inr (inl e)))))) h = rw e h
+  idle-fits (inr (inr (inr (inr (inr (inr e)))))) h = rw e h
 
-  pub fits_8 : code ≡ 8 → eqb act 16 ≡ fits code act
+module _ (g : Function) (act : ℕ) where
+  pub reading-fits : g ≡ Rewind → eqb act 1 ≡ fits (function_byte g) act
+  unfolding fits
+  reading-fits e = rw e refl
+
+  pub directory-fits : (g ≡ NextSlot) ⊎ (g ≡ PutSlot) → eqb act 16 ≡ fits (function_byte g) act
   unfolding fits within
-  fits_8 e = rw e refl
+  directory-fits (inl e) = rw e refl
+  directory-fits (inr e) = rw e refl
+
+pub ruleset activities = (file-fits, close-fits, close-other, idle-fits, reading-fits, directory-fits)
+
+-- ---- the refusal of one that it does not take
+
+module _ (g : Function) (act : ℕ) where
+  pub misfit-closed : g ≡ Close → act ≡ 0 → 13 ≡ misfit (function_byte g) act
+  unfolding misfit
+  misfit-closed e h = rw (e, h) refl
+
+  pub misfit-open : (act ≡ 0 → ⊥) → 18 ≡ misfit (function_byte g) act
+  unfolding misfit
+  misfit-open h = pick_all (λ (n : ℕ). 18 ≡ n) (eqb (function_byte g) 4) _ _ (rw (ne_eqb act 0 h) refl) refl
+
+pub misfit-other : (g : Function) (act : ℕ) → (g ≡ Close → ⊥) → 18 ≡ misfit (function_byte g) act
+unfolding misfit
+misfit-other Transfer act h = refl
+misfit-other OpenRead act h = refl
+misfit-other OpenWrite act h = refl
+misfit-other Close act h = absurd (h refl)
+misfit-other Rewind act h = refl
+misfit-other OpenDirectory act h = refl
+misfit-other NextSlot act h = refl
+misfit-other PutSlot act h = refl
+misfit-other ReadSector act h = refl
+misfit-other WriteSector act h = refl
+misfit-other Delete act h = refl
+misfit-other Rename act h = refl

@@ -1,130 +1,147 @@
 // The FMS call: the checks that every call makes in order, and the function that a block asks for.
+// The table and f stay two parameters: why is told in `blocks`.
 #![tactic(auto)]
 
 ghost use Rattle.std.specs.Prelude.{◌≡◌, [], ◌+◌, ◌*◌, ◌<◌};
+ghost use Rattle.rules.specs.Refusals.{code, number_of, byte_of};
 ghost use Rattle.rules.specs.Outcome.{out, left, settled, refuse};
-ghost use Rattle.rules.specs.Block.{block_at};
+ghost use Rattle.rules.specs.Block.{block_at, function_in};
 ghost use Rattle.rules.specs.Transfer.{transfer};
 ghost use Rattle.rules.specs.Call.{call, asked, perform};
-ghost use Rattle.fms.specs.Steps.{on_shape};
+ghost use Rattle.fms.specs.Functions.{function_byte};
+ghost use Rattle.fms.specs.Steps.{Checked, on_shape};
 
-use blocks::refuse;
+use blocks::{Activity, refuse};
 use cells::get_in;
-use codes::{is_served, misfit_of, takes};
-use disk::{Shaped, shape_of};
+use disk::{Shape, shape_of};
 use files::{
     delete, next_slot, open_directory, open_read, open_write, read_sector, rename, rewind,
 };
+use function::Function;
 use raw::{put_slot, write_sector};
-use rules::block::{BLOCK_LENGTH, BLOCKS, TABLE_LENGTH};
-use transfer::{Given, close, read, write};
+use rules::block::{ACTIVITY, BLOCK_LENGTH, BLOCKS, DRIVE, FUNCTION, TABLE_LENGTH};
+use rules::refusal::Refusal;
+use transfer::{close, read, write};
 
-mod codes;
-
-// What a call gives back: 0 or the number of the refusal, and the byte that reading returns.
-#[derive(Clone, Copy)]
-pub struct Reply {
-    pub answer: u8,
-    pub byte: u8,
-}
+mod function;
 
 // A refusal that the block is told of.
-fn refused(table: &mut [u8], f: u16, e: u8) -> Reply
-    ensures { out result.answer result.byte [] table.new ≡ left [] table.old f (settled (refuse e)) }
+fn refused(table: &mut [u8], f: u16, e: Refusal) -> Result<u8, Refusal>
+    ensures { out (number_of result) (byte_of result) [] table.new ≡ left [] table.old f (settled (refuse (code e))) }
 {
-    let answer = refuse(table, f, e);
-    Reply { answer, byte: 0 }
+    Err(refuse(table, f, e))
 }
 
 // The answer of a function that returns no byte.
-fn plain(answer: u8) -> Reply
-    ensures { (result.answer ≡ answer) × (result.byte ≡ 0) }
+fn plain(answer: Result<(), Refusal>) -> Result<u8, Refusal>
+    ensures { (number_of result ≡ number_of answer) × (byte_of result ≡ 0) }
 {
-    Reply { answer, byte: 0 }
+    match answer {
+        Ok(()) => Ok(0),
+        Err(e) => Err(e),
+    }
 }
 
 // Function 0: a block that reads gets a byte, one that writes sends it.
-fn transfer_byte(image: &mut [u8], table: &mut [u8], last: u8, per: u8, f: u16, byte: u8) -> Reply
-    ensures { out result.answer result.byte image.new table.new ≡ left image.old table.old f (settled (transfer image.old table.old last per f byte)) }
+fn transfer_byte(
+    image: &mut [u8],
+    table: &mut [u8],
+    shape: Shape,
+    f: u16,
+    byte: u8,
+) -> Result<u8, Refusal>
+    ensures { out (number_of result) (byte_of result) image.new table.new ≡ left image.old table.old f (settled (transfer image.old table.old shape.last shape.per f byte)) }
 {
-    let act = get_in(table, f as usize, 2);
-    if act != 1 {
-        return plain(write(image, table, last, per, f, byte));
+    if get_in(table, f as usize, ACTIVITY) == Activity::Reading as u8 {
+        return read(image, table, shape, f);
     }
-    let given = read(image, table, last, per, f);
-    match given {
-        Given::Byte(b) => Reply { answer: 0, byte: b },
-        Given::Refused(e) => Reply { answer: e, byte: 0 },
+    plain(write(image, table, shape, f, byte))
+}
+
+// The block's function.
+fn perform_by(
+    image: &mut [u8],
+    table: &mut [u8],
+    shape: Shape,
+    f: u16,
+    byte: u8,
+    function: Function,
+) -> Result<u8, Refusal>
+    requires { function_byte function ≡ function_in table.old f }
+    ensures { out (number_of result) (byte_of result) image.new table.new ≡ left image.old table.old f (settled (perform image.old table.old shape.last shape.per f byte)) }
+{
+    match function {
+        Function::Transfer => transfer_byte(image, table, shape, f, byte),
+        Function::OpenRead => plain(open_read(image, table, shape, f)),
+        Function::OpenWrite => plain(open_write(image, table, shape, f)),
+        Function::Close => plain(close(image, table, shape, f)),
+        Function::Rewind => {
+            rewind(table, f);
+            Ok(0)
+        }
+        Function::OpenDirectory => {
+            open_directory(table, f);
+            Ok(0)
+        }
+        Function::NextSlot => plain(next_slot(image, table, shape, f)),
+        Function::PutSlot => plain(put_slot(image, table, shape, f)),
+        Function::ReadSector => plain(read_sector(image, table, shape, f)),
+        Function::WriteSector => plain(write_sector(image, table, shape, f)),
+        Function::Delete => plain(delete(image, table, shape, f)),
+        Function::Rename => plain(rename(image, table, shape, f)),
     }
 }
 
-// The function with a code that is served: 13 is the one left at the end.
-fn perform_by(image: &mut [u8], table: &mut [u8], last: u8, per: u8, f: u16, byte: u8) -> Reply
-    ensures { out result.answer result.byte image.new table.new ≡ left image.old table.old f (settled (perform image.old table.old last per f byte)) }
+// The function that the block that begins at f asks for, or the refusal of the first check that it fails.
+fn checked(table: &[u8], f: u16) -> Result<Function, Refusal>
+    ensures { Checked table.now f result }
 {
-    let code = get_in(table, f as usize, 0);
-    match code {
-        0 => transfer_byte(image, table, last, per, f, byte),
-        1 => plain(open_read(image, table, last, per, f)),
-        2 => plain(open_write(image, table, last, per, f)),
-        4 => plain(close(image, table, last, per, f)),
-        5 => plain(rewind(table, f)),
-        6 => plain(open_directory(table, f)),
-        7 => plain(next_slot(image, table, last, per, f)),
-        8 => plain(put_slot(image, table, last, per, f)),
-        9 => plain(read_sector(image, table, last, per, f)),
-        10 => plain(write_sector(image, table, last, per, f)),
-        12 => plain(delete(image, table, last, per, f)),
-        _ => plain(rename(image, table, last, per, f)),
+    let function = Function::try_from(get_in(table, f as usize, FUNCTION))?;
+    if get_in(table, f as usize, DRIVE) != 0 {
+        return Err(Refusal::NoDiskette);
     }
+    let act = get_in(table, f as usize, ACTIVITY);
+    if !function.takes(act) {
+        return Err(function.misfit(act));
+    }
+    Ok(function)
 }
 
 // The checks behind that of the shape.
-fn on_shape(image: &mut [u8], table: &mut [u8], last: u8, per: u8, f: u16, byte: u8) -> Reply
-    ensures { out result.answer result.byte image.new table.new ≡ left image.old table.old f (settled (on_shape image.old table.old last per f byte)) }
+fn on_shape(
+    image: &mut [u8],
+    table: &mut [u8],
+    shape: Shape,
+    f: u16,
+    byte: u8,
+) -> Result<u8, Refusal>
+    ensures { out (number_of result) (byte_of result) image.new table.new ≡ left image.old table.old f (settled (on_shape image.old table.old shape.last shape.per f byte)) }
 {
-    let code = get_in(table, f as usize, 0);
-    let act = get_in(table, f as usize, 2);
-    let drive = get_in(table, f as usize, 3);
-    let known = is_served(code);
-    let fit = takes(code, act);
-    let misfit = misfit_of(code, act);
-    if !known {
-        return refused(table, f, 1);
+    match checked(table, f) {
+        Ok(function) => perform_by(image, table, shape, f, byte, function),
+        Err(e) => refused(table, f, e),
     }
-    if drive != 0 {
-        return refused(table, f, 16);
-    }
-    if !fit {
-        return refused(table, f, misfit);
-    }
-    perform_by(image, table, last, per, f, byte)
 }
 
 // What the block that begins at f asks for.
-fn on_block(image: &mut [u8], table: &mut [u8], f: u16, byte: u8) -> Reply
-    ensures { out result.answer result.byte image.new table.new ≡ left image.old table.old f (settled (asked image.old table.old f byte)) }
+fn on_block(image: &mut [u8], table: &mut [u8], f: u16, byte: u8) -> Result<u8, Refusal>
+    ensures { out (number_of result) (byte_of result) image.new table.new ≡ left image.old table.old f (settled (asked image.old table.old f byte)) }
 {
-    let shaped = shape_of(image);
-    match shaped {
-        Shaped::Right(z) => {
-            let last = z.last;
-            let per = z.per;
-            on_shape(image, table, last, per, f, byte)
-        }
-        Shaped::Wrong => refused(table, f, 16),
+    match shape_of(image) {
+        Some(shape) => on_shape(image, table, shape, f, byte),
+        None => refused(table, f, Refusal::NoDiskette),
     }
 }
 
 // The FMS call on block `fcb`, with a byte to be written.
-pub fn call(image: &mut [u8], table: &mut [u8], fcb: usize, byte: u8) -> Reply
-    ensures { out result.answer result.byte image.new table.new ≡ left image.old table.old (block_at fcb) (call image.old table.old fcb byte) }
+pub fn call(image: &mut [u8], table: &mut [u8], fcb: usize, byte: u8) -> Result<u8, Refusal>
+    ensures { out (number_of result) (byte_of result) image.new table.new ≡ left image.old table.old (block_at fcb) (call image.old table.old fcb byte) }
 {
     if table.len() != TABLE_LENGTH {
-        return plain(13);
+        return Err(Refusal::NoBlock);
     }
     if fcb >= BLOCKS {
-        return plain(13);
+        return Err(Refusal::NoBlock);
     }
     on_block(image, table, (BLOCK_LENGTH * fcb) as u16, byte)
 }

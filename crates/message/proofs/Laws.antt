@@ -1,14 +1,13 @@
 -- Laws that the proof of the error text cites: its two ways out.
 use mathlib.Core.Path.{◌≡◌, refl}
 use mathlib.Core.List.{List, [], ◌∷◌}
-use Prim.Native.Nat.{ℕ, ◌≤◌, ◌<◌}
+use Prim.Native.Nat.{ℕ, ◌/◌, ◌≤◌, ◌<◌}
 use lib.ListN.{length}
 use borrow.Author.Tests.{le-leb, lt-leb}
 use Rattle.rules.specs.Bytes.{over}
 use Rattle.rules.specs.Outcome.{told}
-use Rattle.rules.specs.Text.{error_line, error_text}
+use Rattle.rules.specs.Text.{digit, error_line, error_text}
 use Rattle.laws.specs.Bytes.{over-append}
-use Rattle.message.specs.Digits.{digits}
 
 -- "DISK ERROR #"
 abbrev heading : List ℕ
@@ -18,6 +17,6 @@ pub text-short : (text : List ℕ) (e : ℕ) → length text < 15 → told 40 te
 unfolding error_text
 text-short text e h = rw (lt-leb 15 (length text) h) refl
 
-pub text-line : (text : List ℕ) (e : ℕ) {t t' : List ℕ} → t' ≡ over t 12 (digits e) → t ≡ over text 0 heading → 15 ≤ length text → told 0 t' ≡ error_text text e
-unfolding error_text error_line digits
-text-line text e p q h = rw (le-leb 15 (length text) h, p, q, ← over-append text 0 heading (digits e)) refl
+pub text-line : (text : List ℕ) (e : ℕ) {t t' : List ℕ} (ds : List ℕ) → ds ≡ digit (e / 100) ∷ digit (e / 10) ∷ digit e ∷ [] → t' ≡ over t 12 ds → t ≡ over text 0 heading → 15 ≤ length text → told 0 t' ≡ error_text text e
+unfolding error_text error_line
+text-line text e ds d p q h = rw (le-leb 15 (length text) h, p, d, q, ← over-append text 0 heading (digit (e / 100) ∷ digit (e / 10) ∷ digit e ∷ [])) refl

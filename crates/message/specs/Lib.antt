@@ -1,3 +1,2 @@
--- What the contracts of this crate cite, and what is proved of the promise of its public function.
-pub mod Digits
+-- What is proved of the promise of the public function of this crate.
 pub mod Promises

@@ -2,32 +2,29 @@
 #![tactic(auto)]
 
 ghost use Rattle.std.specs.Prelude.{◌≡◌};
-ghost use Rattle.rules.specs.Bytes.{over};
+ghost use Rattle.rules.specs.Refusals.{number_of};
 ghost use Rattle.rules.specs.Outcome.{told};
-ghost use Rattle.rules.specs.Text.{error_text};
-ghost use Rattle.message.specs.Digits.{digits};
+ghost use Rattle.rules.specs.Text.{digit, error_text};
 
 use cells::store;
+use rules::refusal::Refusal;
 
-// A number's three digits stored behind the heading.
-fn put_digits(text: &mut [u8], number: u8)
-    ensures { text.new ≡ over text.old 12 (digits number) }
+// A number's last digit as a letter.
+fn digit(number: u8) -> u8
+    ensures { result ≡ digit number }
 {
-    let hundreds = 48 + number / 100 % 10;
-    let tens = 48 + number / 10 % 10;
-    let ones = 48 + number % 10;
-    let three = [hundreds, tens, ones];
-    store(text, 12, &three);
+    b'0' + number % 10
 }
 
 // "DISK ERROR #" and three digits in the first 15 bytes of a text; 40 where it has fewer.
-pub fn error_text(text: &mut [u8], number: u8) -> u8
-    ensures { told result text.new ≡ error_text text.old number }
+pub fn error_text(text: &mut [u8], number: u8) -> Result<(), Refusal>
+    ensures { told (number_of result) text.new ≡ error_text text.old number }
 {
     if text.len() < 15 {
-        return 40;
+        return Err(Refusal::WrongLength);
     }
+    let three = [digit(number / 100), digit(number / 10), digit(number)];
     store(text, 0, b"DISK ERROR #");
-    put_digits(text, number);
-    0
+    store(text, 12, &three);
+    Ok(())
 }

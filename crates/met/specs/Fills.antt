@@ -1,5 +1,5 @@
 -- A byte written inside a sector; the last sector of a file stored; close.
-use Rattle.std.specs.Prelude.{◌≡◌, ◌≢◌, true, ℕ, ◌+◌, ◌*◌, ◌%◌, ◌≤◌, ◌<◌, set}
+use Rattle.std.specs.Prelude.{◌≡◌, ◌≢◌, true, ℕ, ◌+◌, ◌*◌, ◌%◌, ◌≤◌, ◌<◌, set, Ok}
 use Rattle.std.proofs.Math.Path.{refl, sym, ap, ap₂, subst}
 use Rattle.std.proofs.Common.{◌∙◌, get_or-set_same}
 use mathlib.Core.List.{List, [], ◌∷◌, ◌++◌}
@@ -13,7 +13,6 @@ use Rattle.rules.specs.Bytes.{part, one}
 use Rattle.rules.specs.Stores.{Store, store, stored, Put, put, puts}
 use Rattle.rules.specs.Directory.{slots_of, live, last_of, first}
 use Rattle.rules.specs.Transfer.{slot_in, shut, mark, close_writing, close}
-use Rattle.rules.specs.declared.Lookup.TheVariants.{At}
 use Rattle.laws.specs.Bytes.{part-is, part_same}
 use Rattle.chains.specs.Tally.{tally, tally-head, apart}
 use Rattle.laws.specs.Addresses.{Shape}
@@ -131,7 +130,7 @@ module _ (M S : ℕ) (z : Shape M S) (img tab : List ℕ) (a : Ledger) (r : Agre
           (λ i l. ap (λ (p : ℕ). get_or tab p 0) (omega arith) ∙ w.buffer h i (omega arith) ∙ sym (pad-at c ub i l))
 
       -- the place
-      pub placed-is : slot_in img tab M S (320 * n) ≡ At (get_or (slots_of a.dir) s 0)
+      pub placed-is : slot_in img tab M S (320 * n) ≡ Ok (get_or (slots_of a.dir) s 0)
       placed-is =
           rw w.place (placed-spot M S z a.dir r.listing img r.dir s (get_or (slots_of a.dir) s 0) (spot M S a.dir r.listing s w.slot))
 

@@ -1,5 +1,5 @@
 -- Functions 6 to 10: open directory, next slot, put slot, read sector, write sector.
-use Rattle.std.specs.Prelude.{◌≡◌, Bool, ltb}
+use Rattle.std.specs.Prelude.{◌≡◌, Bool, ltb, Result, Ok, Err}
 use Rattle.std.proofs.Math.Path.{refl, ap, ap₂, subst}
 use Rattle.std.proofs.Common.{sym, ◌∙◌, arith}
 use Rattle.std.proofs.Math.Bool.{true, false}
@@ -16,8 +16,8 @@ use Rattle.rules.specs.Outcome.{on_slot, done}
 use Rattle.rules.specs.Block.{function_in, place_in}
 use Rattle.rules.specs.Transfer.{slot_in}
 use Rattle.rules.specs.Files.{open_directory, shown, next_slot, put_slot, read_sector, write_sector}
-use Rattle.rules.specs.declared.Lookup.{Lookup}
-use Rattle.rules.specs.declared.Lookup.TheVariants.{At, Missing, Broken}
+use Rattle.rules.specs.declared.NoSlot.{NoSlot}
+use Rattle.rules.specs.declared.NoSlot.TheVariants.{Missing, Broken}
 use Rattle.laws.specs.Bytes.{part-is, length_part, length-zeros, same_refl, same-eq}
 use Rattle.laws.specs.Addresses.{Shape}
 use Rattle.chains.specs.Chain.{first-get_or}
@@ -116,7 +116,7 @@ module _ (M S : ℕ) (z : Shape M S) (img tab : List ℕ) (a : Ledger) (r : Agre
       rw (k.place, not-zero s hs, pl, ds, behind M S z a.dir r.listing s hs) (go k (dec_lt (s + 1) (length (slots_of a.dir))))
     where
       go : Listed S (slots_of a.dir) tab n (suc s) → Dec (s + 1 < length (slots_of a.dir))
-          → Meets M S img tab n (on_slot (pick (ltb (s + 1) (length (slots_of a.dir))) (At (get_or (slots_of a.dir) (s + 1) 0)) Missing) 5 8 (λ next. shown img S next))
+          → Meets M S img tab n (on_slot (pick (ltb (s + 1) (length (slots_of a.dir))) (Ok (get_or (slots_of a.dir) (s + 1) 0)) (Err Missing)) 5 8 (λ next. shown img S next))
           (pick (ltb (suc s) (length a.slots)) (showing (suc s)) (denied 8))
       go k (yes h) =
           rw (lt-ltb (s + 1) (length (slots_of a.dir)) h, lt-ltb (suc s) (length a.slots) (omega (arith, r.ns)))
@@ -152,17 +152,17 @@ module _ (M S : ℕ) (z : Shape M S) (img tab : List ℕ) (a : Ledger) (r : Agre
         k = subst (λ (b : Block). Keeps S (slots_of a.dir) tab n a.slots b) e (r.keeps n hn)
 
         -- place 0,0,0 is no slot's
-        nobody : (o : ℕ) → slot_in img tab M S (320 * n) ≡ At o → ⊥
+        nobody : (o : ℕ) → slot_in img tab M S (320 * n) ≡ Ok o → ⊥
         nobody o h =
             let p = placed-is img M S (place_in tab (320 * n)) o h in
             let d : o % 256 ≡ 0 = ap (λ (l : List ℕ). get_or l 2 0) (p.1 ∙ k.place) in
             omega (arith, d, (slot_is img M S z.sectors o p.0.one_of).low)
 
-        go : (l : Lookup) → slot_in img tab M S (320 * n) ≡ l
+        go : (l : Result ℕ NoSlot) → slot_in img tab M S (320 * n) ≡ l
             → Meets M S img tab n (on_slot l 5 5 (λ slot. done 0 (store (slot / 256) (slot % 256) (part tab (320 * n + 4) 24) ∷ []) [])) (denied 5)
-        go (At o) h = absurd (nobody o h)
-        go Missing h = (refl, omega arith)
-        go Broken h = (refl, omega arith)
+        go (Ok o) h = absurd (nobody o h)
+        go (Err Missing) h = (refl, omega arith)
+        go (Err Broken) h = (refl, omega arith)
     put-slot-meets q (suc s) e =
         let k : Listed S (slots_of a.dir) tab n (suc s) = subst (λ (b : Block). Keeps S (slots_of a.dir) tab n a.slots b) e (r.keeps n hn) in
         let w = spot M S a.dir r.listing s (omega (arith, k.shown)) in

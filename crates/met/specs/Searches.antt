@@ -1,5 +1,5 @@
 -- Searches of the directory and blocks in use: what the rules find is what the ledger says.
-use Rattle.std.specs.Prelude.{◌≡◌, ◌≢◌, Bool, List, [], ◌∷◌, length, get_or, set}
+use Rattle.std.specs.Prelude.{◌≡◌, ◌≢◌, Bool, List, [], ◌∷◌, length, get_or, set, Result, Ok, Err}
 use Rattle.std.proofs.Math.Path.{refl}
 use Rattle.std.proofs.Common.{sym, ap, ◌∙◌, subst, arith}
 use Rattle.std.proofs.Math.Bool.{true, false}
@@ -10,8 +10,8 @@ use Rattle.rules.specs.Bytes.{pick, part}
 use Rattle.rules.specs.Names.{legal}
 use Rattle.rules.specs.Directory.{slots_of, never_used, deleted, live, scan, named, vacant, find, vacancy, place_of, attributes_at}
 use Rattle.rules.specs.Block.{counts, uses, used_below, in_use}
-use Rattle.rules.specs.declared.Lookup.{Lookup}
-use Rattle.rules.specs.declared.Lookup.TheVariants.{At, Missing}
+use Rattle.rules.specs.declared.NoSlot.{NoSlot}
+use Rattle.rules.specs.declared.NoSlot.TheVariants.{Missing}
 use Rattle.laws.specs.Bytes.{part-head, part_at, part_same, part-all, length_part, same-eq}
 use Rattle.laws.specs.Slots.{live_at}
 use Rattle.laws.specs.Addresses.{Shape}
@@ -68,9 +68,9 @@ vacant-hit x h = not-true (live x 0) h
 -- ---- one search
 
 -- a slot by its number, as the rules name it
-abbrev pub looked_up : List ℕ → Sought → Lookup
-looked_up os nowhere = Missing
-looked_up os (slot s) = At (get_or os s 0)
+abbrev pub looked_up : List ℕ → Sought → Result ℕ NoSlot
+looked_up os nowhere = Err Missing
+looked_up os (slot s) = Ok (get_or os s 0)
 
 looked-later : (o : ℕ) (os : List ℕ) (x : Sought) → looked_up os x ≡ looked_up (o ∷ os) (later x)
 looked-later o os nowhere = refl
@@ -86,7 +86,7 @@ scan-seek look cls (o ∷ os) (f ∷ fs) e h =
     rw (h 0 (omega arith)) (go (cls f.name) (scan-seek look cls os fs (omega arith) (λ i b. h (suc i) (omega arith))))
   where
     go : (u : Bool) → scan look os ≡ looked_up os (seek cls fs)
-        → pick u (At o) (scan look os) ≡ looked_up (o ∷ os) (pick u (slot 0) (later (seek cls fs)))
+        → pick u (Ok o) (scan look os) ≡ looked_up (o ∷ os) (pick u (slot 0) (later (seek cls fs)))
     go true ih = refl
     go false ih = ih ∙ looked-later o os (seek cls fs)
 

@@ -1,17 +1,25 @@
--- Classes of bytes; a turn and the end of each loop over the bytes of a name.
-use mathlib.Core.Path.{◌≡◌, refl, ap, ◌∙◌}
-use mathlib.Core.Bool.{Bool, true, false}
-use mathlib.Core.List.{List}
+-- Classes of bytes; a name's first byte and the others; the two parts of a name.
+use mathlib.Core.Path.{◌≡◌, refl, sym, ap, ◌∙◌}
+use mathlib.Core.Bool.{Bool, true, false, ◌&&◌, ◌||◌, cond}
+use mathlib.Core.List.{List, [], ◌∷◌, ◌++◌}
 use mathlib.Core.Logic.{◌⊎◌, inl, inr}
-use Prim.Native.Nat.{ℕ, ◌+◌, ◌-◌, ◌≤◌, ◌<◌}
+use Prim.Native.Nat.{ℕ, suc, ◌+◌, ◌-◌, ◌≤◌, ◌<◌}
 use native.Mathlib.Omega.{arith}
-use lib.ListN.{get_or}
+use lib.Dec.{eqb, leb}
+use lib.ListN.{length, get_or, take, drop}
+use lib.Seq.{take_all, take-append-le, drop-append_seam}
 use borrow.Author.Tests.{le-leb, lt-leb, ne_eqb}
-use Rattle.rules.specs.Bytes.{within, part}
+use Rattle.std.specs.List.{list_all, prefix_len}
+use Rattle.rules.specs.Bytes.{pick, ◌and◌, ◌or◌, within, part, over}
 use Rattle.rules.specs.Names.{is_letter, is_digit, is_name_byte, all_zero, goes_on, is_word, legal}
-use Rattle.laws.specs.Bytes.{part-more, part_none}
+use Rattle.laws.specs.Bytes.{length_part, part_join}
+use Rattle.laws.specs.Lent.{over-exact}
 
 -- ---- classes
+
+within-is : (s t : Bool) → (s && t) ≡ (s and t)
+within-is true t = refl
+within-is false t = refl
 
 -- letters, interval by interval
 module _ (b : ℕ) where
@@ -53,59 +61,59 @@ module _ (b : ℕ) {l : Bool} (e : l ≡ is_letter b) where
   unfolding is_name_byte
   byte-other h q k s = rw (← e, h, ← q, k, ne_eqb b 45 (λ x. s (inl x)), ne_eqb b 95 (λ x. s (inr x))) refl
 
--- ---- loops: w is the answer, b the byte of this turn
+-- ---- the bytes behind the first: they are zeros from the first on that is no byte of a name
 
-further : (m : List ℕ) (at i n : ℕ) → part m (at + i + 1) n ≡ part m (at + (i + 1)) n
-further m at i n = ap (λ (p : ℕ). part m p n) (omega arith)
-
-module _ (m : List ℕ) (at i n : ℕ) {w : Bool} {b : ℕ} (e : b ≡ get_or m (at + i) 0) (h : 0 < n) where
-  pub zero-no : w ≡ all_zero (part m (at + i) n) → (b ≡ 0 → ⊥) → false ≡ w
-  unfolding all_zero
-  zero-no v k = rw (v, part-more m (at + i) n h, ← e, ne_eqb b 0 k) refl
-
-  pub zero-on : w ≡ all_zero (part m (at + i) n) → b ≡ 0 → w ≡ all_zero (part m (at + (i + 1)) (n - 1))
-  unfolding all_zero
-  zero-on v k = rw (v, part-more m (at + i) n h, ← e, k, ← further) refl
-
-  pub goes-no : {r o : Bool} → w ≡ goes_on (part m (at + i) n) → r ≡ is_name_byte b → r ≡ false → o ≡ all_zero (part m (at + i) n) → o ≡ w
-  unfolding goes_on
-  goes-no v q k d = rw (d, v, part-more m (at + i) n h, ← e, ← q, k) refl
-
-  pub goes_on_lem : {r : Bool} → w ≡ goes_on (part m (at + i) n) → r ≡ is_name_byte b → r ≡ true → w ≡ goes_on (part m (at + (i + 1)) (n - 1))
-  unfolding goes_on
-  goes_on_lem v q k = rw (v, part-more m (at + i) n h, ← e, ← q, k, ← further) refl
-
-pub zero-end : (m : List ℕ) (p n : ℕ) {w : Bool} → w ≡ all_zero (part m p n) → n ≤ 0 → true ≡ w
+zeros-are : (bs : List ℕ) → list_all (λ b. eqb b 0) bs ≡ all_zero bs
 unfolding all_zero
-zero-end m p n v h = rw (v, part_none m p n h) refl
+zeros-are [] = refl
+zeros-are (b ∷ bs) = within-is (eqb b 0) (list_all (λ c. eqb c 0) bs) ∙ ap (λ (t : Bool). eqb b 0 and t) (zeros-are bs)
 
-pub goes_end : (m : List ℕ) (p n : ℕ) {w : Bool} → w ≡ goes_on (part m p n) → n ≤ 0 → true ≡ w
+goes-is : (bs : List ℕ) → list_all (λ b. eqb b 0) (drop (prefix_len is_name_byte bs) bs) ≡ goes_on bs
 unfolding goes_on
-goes_end m p n v h = rw (v, part_none m p n h) refl
+goes-is [] = refl
+goes-is (b ∷ bs) = go (is_name_byte b) (goes-is bs)
+  where
+    go : (t : Bool) → list_all (λ c. eqb c 0) (drop (prefix_len is_name_byte bs) bs) ≡ goes_on bs
+        → list_all (λ c. eqb c 0) (drop (cond t (1 + prefix_len is_name_byte bs) 0) (b ∷ bs)) ≡ pick t (goes_on bs) (all_zero (b ∷ bs))
+    go true ih = ap (λ (k : ℕ). list_all (λ c. eqb c 0) (drop k (b ∷ bs))) (let s : 1 + prefix_len is_name_byte bs ≡ suc (prefix_len is_name_byte bs) = omega arith in s) ∙ ih
+    go false ih = zeros-are (b ∷ bs)
 
 -- ---- a word, a name
 
-pub word_none : (m : List ℕ) (p n : ℕ) → n ≡ 0 → false ≡ is_word (part m p n)
+pub word-none : (bs : List ℕ) → length bs < 1 → false ≡ is_word bs
 unfolding is_word
-word_none m p n h = rw (part_none m p n (omega arith)) refl
+word-none [] h = refl
+word-none (b ∷ bs) h = absurd (omega arith)
 
-module _ (m : List ℕ) (at i n : ℕ) {l : Bool} {b : ℕ} (e : b ≡ get_or m (at + i) 0) (h : n ≡ 0 → ⊥) (q : l ≡ is_letter b) where
-  pub word-no : l ≡ false → false ≡ is_word (part m (at + i) n)
-  unfolding is_word
-  word-no k = rw (part-more m (at + i) n (omega (arith, h)), ← e, ← q, k) refl
+pub word-no : (bs : List ℕ) {r : Bool} → 1 ≤ length bs → r ≡ is_letter (get_or bs 0 0) → r ≡ false → r ≡ is_word bs
+unfolding is_word
+word-no [] h e k = absurd (omega arith)
+word-no (b ∷ bs) h e k = rw (← e, k) refl
 
-  pub word_on : {o : Bool} → l ≡ true → o ≡ goes_on (part m (at + (i + 1)) (n - 1)) → o ≡ is_word (part m (at + i) n)
-  unfolding is_word
-  word_on k d = rw (part-more m (at + i) n (omega (arith, h)), ← e, ← q, k, further) d
+pub word_on : (bs : List ℕ) {r o : Bool} → 1 ≤ length bs → r ≡ is_letter (get_or bs 0 0) → r ≡ true
+    → (rest : List ℕ) → rest ≡ take (length bs - 1) (drop 1 bs) → o ≡ list_all (λ b. eqb b 0) (drop (prefix_len is_name_byte rest) rest) → o ≡ is_word bs
+unfolding is_word
+word_on [] h e k rest q d = absurd (omega arith)
+word_on (b ∷ bs) h e k rest q d = rw (← e, k) (d ∙ goes-is rest ∙ ap goes_on (q ∙ take_all (length (b ∷ bs) - 1) bs (omega arith)))
 
-module _ (m : List ℕ) (at : ℕ) {r : Bool} (e : r ≡ is_word (part m (at + 0) 8)) where
-  here : r ≡ is_word (part m at 8)
-  here = e ∙ ap (λ (p : ℕ). is_word (part m p 8)) (omega arith)
+-- name is a copy of eleven bytes of m: its eight and its three
+module _ (m name ws : List ℕ) (at : ℕ) (e : name ≡ over ws 0 (part m at 11)) (l : length ws ≡ 11) where
+  both : name ≡ part m at 8 ++ part m (at + 8) 3
+  both = e ∙ over-exact ws (part m at 11) (length_part m at 11 ∙ sym l) ∙ sym (part_join m 8 3 at (at + 8) refl)
 
-  pub legal-no : r ≡ false → false ≡ legal m at
-  unfolding legal
-  legal-no k = rw (← here, k) refl
+  eight : take 8 name ≡ part m at 8
+  eight = rw both (take-append-le 8 (part m at 8) (part m (at + 8) 3) (omega (arith, length_part m at 8)) ∙ take_all 8 (part m at 8) (omega (arith, length_part m at 8)))
 
-  pub legal-on : {o : Bool} → r ≡ true → o ≡ is_word (part m (at + 8) 3) → o ≡ legal m at
-  unfolding legal
-  legal-on k d = rw (← here, k) d
+  three : take 3 (drop 8 name) ≡ part m (at + 8) 3
+  three =
+      ap (take 3) (rw both (ap (λ (k : ℕ). drop k (part m at 8 ++ part m (at + 8) 3)) (sym (length_part m at 8)) ∙ drop-append_seam (part m at 8) (part m (at + 8) 3)))
+      ∙ take_all 3 (part m (at + 8) 3) (omega (arith, length_part m (at + 8) 3))
+
+  module _ {r : Bool} (q : r ≡ is_word (take 8 name)) where
+    pub legal-no : r ≡ false → r ≡ legal m at
+    unfolding legal
+    legal-no k = rw (← eight, ← q, k) refl
+
+    pub legal-on : {o : Bool} → r ≡ true → o ≡ is_word (take 3 (drop 8 name)) → o ≡ legal m at
+    unfolding legal
+    legal-on k d = rw (← eight, ← q, k) (d ∙ ap is_word three)

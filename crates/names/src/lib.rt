@@ -1,106 +1,63 @@
-// Legal names: the classes of their bytes, by ranges of a byte, and the test of the eleven bytes of name and extension.
+// Legal names: the classes of their bytes, and the test of the eleven bytes of name and extension.
 #![tactic(auto)]
 
-ghost use Rattle.std.specs.Prelude.{◌≡◌, ◌+◌, ◌≤◌};
-ghost use Rattle.rules.specs.Bytes.{part};
-ghost use Rattle.rules.specs.Names.{is_letter, is_digit, is_name_byte, all_zero, goes_on, is_word, legal};
+ghost use Rattle.std.specs.Prelude.{◌≡◌, ◌==◌, drop};
+ghost use Rattle.std.specs.List.{list_all, prefix_len};
+ghost use Rattle.rules.specs.Names.{is_letter, is_digit, is_name_byte, is_word, legal};
 
-use cells::get_in;
+use cells::copy;
 
+// The classes are told by ranges of a byte, as 01 names this form; the library's `is_ascii_alphabetic` is another.
 fn is_letter(b: u8) -> bool
     ensures { result ≡ is_letter b }
 {
-    match b {
-        b'A'..=b'Z' | b'a'..=b'z' => true,
-        _ => false,
-    }
+    matches!(b, b'A'..=b'Z' | b'a'..=b'z')
 }
 
 fn is_digit(b: u8) -> bool
     ensures { result ≡ is_digit b }
 {
-    match b {
-        b'0'..=b'9' => true,
-        _ => false,
-    }
+    matches!(b, b'0'..=b'9')
 }
 
 // Letters, digits, hyphens and underscores.
 fn is_name_byte(b: u8) -> bool
     ensures { result ≡ is_name_byte b }
 {
-    let letter = is_letter(b);
-    if letter {
+    if is_letter(b) {
         return true;
     }
-    let digit = is_digit(b);
-    if digit {
+    if is_digit(b) {
         return true;
     }
-    match b {
-        b'-' | b'_' => true,
-        _ => false,
-    }
+    matches!(b, b'-' | b'_')
 }
 
-// Are n bytes zeros? They begin `from` bytes behind a place, as in the functions below.
-fn all_zero(table: &[u8], at: usize, from: u8, n: u8) -> bool
-    requires { from + n ≤ 11 }
-    ensures { result ≡ all_zero (part table.now (at + from) n) }
+// Do bytes go on as a name does, with zeros at the end?
+fn goes_on(bytes: &[u8]) -> bool
+    ensures { result ≡ list_all (λ b. b == 0) (drop (prefix_len is_name_byte bytes.now) bytes.now) }
 {
-    let mut i = from;
-    let mut left = n;
-    while left > 0 {
-        let b = get_in(table, at, i as usize);
-        if b != 0 {
-            return false;
-        }
-        i += 1;
-        left -= 1;
-    }
-    true
+    bytes
+        .iter()
+        .skip_while(|b| is_name_byte(**b))
+        .all(|b| *b == 0)
 }
 
-// Do n bytes go on as a name does, with zeros at the end?
-fn goes_on(table: &[u8], at: usize, from: u8, n: u8) -> bool
-    requires { from + n ≤ 11 }
-    ensures { result ≡ goes_on (part table.now (at + from) n) }
+// Are bytes a name?
+fn is_word(bytes: &[u8]) -> bool
+    ensures { result ≡ is_word bytes.now }
 {
-    let mut i = from;
-    let mut left = n;
-    while left > 0 {
-        let fits = is_name_byte(get_in(table, at, i as usize));
-        if !fits {
-            return all_zero(table, at, i, left);
-        }
-        i += 1;
-        left -= 1;
+    match bytes {
+        [] => false,
+        [first, rest @ ..] => is_letter(*first) && goes_on(rest),
     }
-    true
-}
-
-// Are n bytes a name?
-fn is_word(table: &[u8], at: usize, from: u8, n: u8) -> bool
-    requires { from + n ≤ 11 }
-    ensures { result ≡ is_word (part table.now (at + from) n) }
-{
-    if n == 0 {
-        return false;
-    }
-    let letter = is_letter(get_in(table, at, from as usize));
-    if !letter {
-        return false;
-    }
-    goes_on(table, at, from + 1, n - 1)
 }
 
 // Is the name of eight bytes at a place legal, and the extension of three behind it?
 pub fn legal_name(table: &[u8], at: usize) -> bool
     ensures { result ≡ legal table.now at }
 {
-    let name = is_word(table, at, 0, 8);
-    if !name {
-        return false;
-    }
-    is_word(table, at, 8, 3)
+    let mut name = [0; 11];
+    copy(&mut name, 0, table, at, 11);
+    is_word(&name[..8]) && is_word(&name[8..])
 }

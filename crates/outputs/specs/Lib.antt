@@ -1,2 +1,2 @@
--- What is proved of the promises of public functions.
+-- What is proved of the promise of the public function.
 pub mod Promises

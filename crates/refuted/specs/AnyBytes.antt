@@ -1,6 +1,6 @@
 -- Fakes that demand 1, or what is said of a format, refutes: on odd bytes a clause gives an equation of two numbers that differ; beside it, that ours passes
 -- the same clause at the same point. Three of them do harm on damaged images alone: what they do there, computed.
-use Rattle.std.specs.Prelude.{◌≡◌, refl, Bool, true, false, ◌≢◌, List, [], ◌∷◌, ◌++◌, ℕ, ◌+◌, ◌*◌, eqb, length, get_or, replicate}
+use Rattle.std.specs.Prelude.{◌≡◌, refl, Bool, true, false, ◌≢◌, List, [], ◌∷◌, ◌++◌, ℕ, ◌+◌, ◌*◌, eqb, length, get_or, replicate, Result, Ok, Err}
 use Rattle.std.proofs.Common.{sym, ap, ◌∙◌, arith, eq-eqb, eqb-true}
 use Rattle.rules.specs.Image.{per_track, index, last_free}
 use Rattle.rules.specs.Bytes.{pick, part, byte_at, over, one, zeros}
@@ -9,8 +9,8 @@ use Rattle.rules.specs.Block.{function_in, activity_in}
 use Rattle.rules.specs.Call.{call}
 use Rattle.rules.specs.Census.{Survey, survey}
 use Rattle.rules.specs.Directory.{member}
-use Rattle.rules.specs.declared.Lookup.{Lookup}
-use Rattle.rules.specs.declared.Lookup.TheVariants.{At, Missing, Broken}
+use Rattle.rules.specs.declared.NoSlot.{NoSlot}
+use Rattle.rules.specs.declared.NoSlot.TheVariants.{Missing, Broken}
 use Rattle.rules.specs.All.{rules}
 use Rattle.laws.specs.Bytes.{length_over}
 use Rattle.laws.specs.Effects.{answer_numbers}
@@ -363,10 +363,10 @@ works-12 : (tab : List ℕ) (n : ℕ) → asks_for 12 tab n ≡ true → looks (
 unfolding looks member
 works-12 tab n h = rw (eqb-true (function_in tab (320 * n)) 12 h) refl
 
-emptied-long : (m : List ℕ) (s : Lookup) → length (emptied m s) ≡ length m
-emptied-long m (At o) = length_over m (o + 13) (zeros 6)
-emptied-long m Missing = refl
-emptied-long m Broken = refl
+emptied-long : (m : List ℕ) (s : Result ℕ NoSlot) → length (emptied m s) ≡ length m
+emptied-long m (Ok o) = length_over m (o + 13) (zeros 6)
+emptied-long m (Err Missing) = refl
+emptied-long m (Err Broken) = refl
 
 pub doubling-sly : Sly doubling
 doubling-sly =

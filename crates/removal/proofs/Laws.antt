@@ -4,55 +4,36 @@ use mathlib.Core.Bool.{Bool, true, false}
 use mathlib.Core.List.{List, [], ◌∷◌, ◌++◌}
 use Prim.Native.Nat.{ℕ, ◌+◌, ◌≤◌, ◌<◌}
 use native.Mathlib.Omega.{arith}
-use lib.Dec.{eqb, ltb}
-use borrow.Author.Tests.{ltb-false, ne_eqb, lt-ltb, le-ltb}
+use Rattle.std.proofs.Math.Decide.{dec_lt}
+use lib.Dec.{eqb, leb, ltb}
+use borrow.Author.Tests.{ltb-false, ne_eqb, lt-ltb, le-ltb, le-leb, lt-leb}
 use Rattle.rules.specs.Bytes.{pick, word_at, part, over, one, six}
 use Rattle.rules.specs.Stores.{stored, put, puts}
 use Rattle.rules.specs.Image.{index, is_data}
+use Rattle.rules.specs.Refusals.{code}
+use Rattle.rules.specs.declared.refusal.Refusal.{Refusal}
 use Rattle.rules.specs.Outcome.{Outcome, done, unless, when, out, settled, left}
 use Rattle.rules.specs.Transfer.{linked, mark}
 use Rattle.rules.specs.Files.{hang_stores, gone, remove}
 use Rattle.laws.specs.Bytes.{over-append}
 use Rattle.laws.specs.Stores.{stored-append}
-use Rattle.laws.specs.Walk.{slot-begins}
 use Rattle.disk.specs.Loaded.{free_of}
 use Rattle.disk.specs.declared.Free.{Free}
 use Rattle.entries.specs.Entries.{entry_of}
 use Rattle.entries.specs.declared.Entry.{Entry}
 use Rattle.removal.specs.Hanging.{is_end, may_hang}
 
-pub marked : (img : List ℕ) (slot : ℕ) {i : List ℕ} → i ≡ over img slot (one 255) → i ≡ stored img (mark slot)
-unfolding mark
-marked img slot e = rw (slot-begins, e) refl
-
 pub marked-shown : (img tab : List ℕ) (f slot : ℕ) {t t' t'' : List ℕ} → t ≡ over tab (f + 4) (one 255) → t' ≡ over t (f + 4 + 1) (part img (slot + 1) 23)
     → t'' ≡ over t' (f + 1) (one 0) → t'' ≡ puts tab f (gone img slot ++ put 1 (one 0) ∷ [])
 unfolding gone one
 marked-shown img tab f slot p q d = rw (d, q, p, over-append tab (f + 4) (one 255) (part img (slot + 1) 23)) refl
 
-module _ (M S : ℕ) (entry : Entry) (free : Free) {v : Bool} (e : v ≡ is_data M S entry.start) where
-  pub start-bad : v ≡ false → false ≡ may_hang M S entry free
-  unfolding may_hang
-  start-bad h = rw (← e, h) refl
-
-  module _ (h : v ≡ true) {w : Bool} (g : w ≡ is_data M S entry.end) where
-    pub end-bad : w ≡ false → false ≡ may_hang M S entry free
-    unfolding may_hang
-    end-bad k = rw (← e, h, ← g, k) refl
-
-    module _ (k : w ≡ true) {u : Bool} (d : u ≡ is_end M S free) where
-      pub tail-bad : u ≡ false → false ≡ may_hang M S entry free
-      unfolding may_hang
-      tail-bad j = rw (← e, h, ← g, k, ← d, j) refl
-
-      module _ (j : u ≡ true) where
-        pub sum-bad : 65535 < free.count + entry.size → false ≡ may_hang M S entry free
-        unfolding may_hang
-        sum-bad n = rw (← e, h, ← g, k, ← d, j, lt-ltb 65535 (free.count + entry.size) n) refl
-
-        pub all-good : free.count + entry.size ≤ 65535 → true ≡ may_hang M S entry free
-        unfolding may_hang
-        all-good n = rw (← e, h, ← g, k, ← d, j, le-ltb 65535 (free.count + entry.size) n) refl
+pub small : (n : ℕ) → leb n 65535 ≡ pick (ltb 65535 n) false true
+small n = go (dec_lt 65535 n)
+  where
+    go : Dec (65535 < n) → leb n 65535 ≡ pick (ltb 65535 n) false true
+    go (yes h) = rw (lt-leb n 65535 h, lt-ltb 65535 n h) refl
+    go (no h) = rw (le-leb n 65535 (omega arith), le-ltb 65535 n (omega arith)) refl
 
 sum_fits : (a b c d : Bool) (n : ℕ) → ltb 65535 n ≡ d → true ≡ pick a (pick b (pick c (pick d false true) false) false) false → n ≤ 65535
 sum_fits true true true false n e h = ltb-false 65535 n e
@@ -67,12 +48,12 @@ hang-fits M S entry free e h =
     sum_fits (is_data M S entry.start) (is_data M S entry.end) (is_end M S free) (ltb 65535 (free.count + entry.size)) (free.count + entry.size)
     refl (sym h ∙ e)
 
-pub hung : (img : List ℕ) (S slot : ℕ) (entry : Entry) (free : Free) {k head : ℕ} {i i' i'' : List ℕ} → k ≡ index S free.last
-    → head ≡ pick (eqb free.count 0) entry.start free.first → i ≡ stored img (linked (eqb free.count 0) k entry.start)
+pub hung : (img : List ℕ) (S slot : ℕ) (entry : Entry) (free : Free) {head : ℕ} {i i' i'' : List ℕ}
+    → head ≡ pick (eqb free.count 0) entry.start free.first → i ≡ stored img (linked (eqb free.count 0) (index S free.last) entry.start)
     → i' ≡ over i 541 (six head entry.end (free.count + entry.size)) → i'' ≡ stored i' (mark slot)
     → i'' ≡ stored img (hang_stores S slot free.count free.first free.last entry.start entry.end entry.size)
 unfolding hang_stores
-hung img S slot entry free a b p q d = rw (stored-append, d, q, p, a, b) refl
+hung img S slot entry free b p q d = rw (stored-append, d, q, p, b) refl
 
 -- four tests with one number are one
 gathered : (a b c d : Bool) (o : Outcome) → unless a 9 (unless b 9 (unless c 9 (when d 9 o))) ≡ unless (pick a (pick b (pick c (pick d false true) false) false) false) 9 o
@@ -97,8 +78,8 @@ module _ (img tab : List ℕ) (M S f slot : ℕ) {entry : Entry} (e : entry ≡ 
         let s : word_at img (slot + 17) ≡ 0 → ⊥ = λ z. h (ap (λ (x : Entry). x.size) e ∙ z) in
         rw (ne_eqb (word_at img (slot + 17)) 0 s, gathered, d, e, g) refl
 
-    pub remove-refused : {r : ℕ} {t : List ℕ} → v ≡ false → r ≡ 9 → t ≡ over tab (f + 1) (one 9) → out r 0 img t ≡ left img tab f (settled (remove img M S slot))
-    remove-refused k p q = rw (remove-is, k, p, q) refl
+    pub remove-refused : {r x : Refusal} {t : List ℕ} → v ≡ false → r ≡ x → t ≡ over tab (f + 1) (one (code x)) → code x ≡ 9 → out (code r) 0 img t ≡ left img tab f (settled (remove img M S slot))
+    remove-refused k p q z = rw (remove-is, k, p, q, z) refl
 
     pub removed : {i t : List ℕ} → v ≡ true → t ≡ puts tab f (gone img slot ++ put 1 (one 0) ∷ [])
         → i ≡ stored img (hang_stores S slot free.count free.first free.last entry.start entry.end entry.size)

@@ -21,18 +21,17 @@ use Rattle.rules.specs.Census.{twins}
 use Rattle.rules.specs.Repair.{all_closed, mended, repair}
 use Rattle.rules.specs.declared.Next.{Next}
 use Rattle.rules.specs.declared.Next.TheVariants.{End, To, Astray}
-use Rattle.rules.specs.declared.Lookup.{Lookup}
-use Rattle.rules.specs.declared.Lookup.TheVariants.{At, Missing, Broken}
+use Rattle.std.specs.Prelude.{Option, Some, None, Result, Ok, Err}
+use Rattle.rules.specs.declared.NoSlot.{NoSlot}
+use Rattle.rules.specs.declared.NoSlot.TheVariants.{Missing, Broken}
 use Rattle.laws.specs.Visits.{one_left, none_left, most_slots, first_slot, step_slot, on_there}
 use Rattle.laws.specs.Walk.{sectors-more, sectors-none}
 use Rattle.laws.specs.Addresses.{Shape, data-few, shape_is, address-small}
 use Rattle.census_laws.specs.Limits.{few-data}
 use Rattle.disk.specs.Loaded.{shape_of}
-use Rattle.disk.specs.Shapes.{right_is, wrong-is}
+use Rattle.disk.specs.Shapes.{some_is, none-is}
 use Rattle.disk.specs.declared.Free.{Free}
 use Rattle.disk.specs.declared.Shape as read
-use Rattle.disk.specs.declared.Shaped.{Shaped}
-use Rattle.disk.specs.declared.Shaped.TheVariants.{Right, Wrong}
 use Rattle.repair.specs.declared.Kept.{Kept}
 use Rattle.repair.specs.Passes.{with_mark, with_marks, is_open, Walked, walked, walk, slot_mended, Worked, worked, file_mended, files_mended, Chained, chained, before, in_front, no_free, chaining, free_mended, tried}
 
@@ -65,31 +64,17 @@ module _ (S k : ℕ) (ms : List ℕ) where
   unfolding with_mark
   mark-data h e = rw (le-ltb k S h) (e ∙ ap (λ (i : ℕ). over ms i (one 1)) (omega arith))
 
-pub marks-first : (img : List ℕ) (M S n : ℕ) (ms : List ℕ) → n ≡ most_of_directory M S
-    → with_marks S (directory img M S) ms ≡ with_marks S (sectors_from img M S n first_of_directory) ms
-unfolding directory
-marks-first img M S n ms h = rw h refl
+pub marks-first : (img : List ℕ) (M S : ℕ) (ms : List ℕ) {ks : List ℕ} → ks ≡ directory img M S → with_marks S (directory img M S) ms ≡ with_marks S ks ms
+marks-first img M S ms e = rw e refl
 
-module _ (img : List ℕ) (M S n k : ℕ) (ms : List ℕ) {w : List ℕ} (v : w ≡ with_marks S (sectors_from img M S n k) ms) where
-  pub marks-none : n ≤ 0 → ms ≡ w
+module _ (S : ℕ) (ks ms : List ℕ) {w : List ℕ} (v : w ≡ with_marks S ks ms) where
+  pub marks-none : ks ≡ [] → ms ≡ w
   unfolding with_marks
-  marks-none h = rw (v, sectors-none img M S n k h) refl
+  marks-none e = rw (v, e) refl
 
-  module _ {ms' : List ℕ} {l : Next} (h : 0 < n) (d : ms' ≡ with_mark S k ms) (e : l ≡ next_of img M S k) where
-    marks-here : w ≡ with_marks S (on_next l [] [] (λ p. sectors_from img M S (n - 1) p)) ms'
-    unfolding with_marks
-    marks-here = rw (v, sectors-more img M S n k h, d, e) refl
-
-    pub marks-next : {p : ℕ} → l ≡ To p → w ≡ with_marks S (sectors_from img M S (n - 1) p) ms'
-    marks-next t = rw (marks-here, t) refl
-
-    pub marks-last : l ≡ End → ms' ≡ w
-    unfolding with_marks
-    marks-last t = rw (marks-here, t) refl
-
-    pub marks-astray : l ≡ Astray → ms' ≡ w
-    unfolding with_marks
-    marks-astray t = rw (marks-here, t) refl
+  pub marks-next : {k : ℕ} {ks' ms' : List ℕ} → ks ≡ k ∷ ks' → ms' ≡ with_mark S k ms → w ≡ with_marks S ks' ms'
+  unfolding with_marks
+  marks-next e d = rw (v, e, d) refl
 
 module _ (M S a : ℕ) (ms : List ℕ) {b : Bool} (d : b ≡ is_data M S a) where
   pub open_no : b ≡ false → false ≡ is_open M S ms a
@@ -102,34 +87,40 @@ module _ (M S a : ℕ) (ms : List ℕ) {b : Bool} (d : b ≡ is_data M S a) wher
 
 -- ---- what a file keeps
 
-module _ (img : List ℕ) (M S n a e c : ℕ) (ms : List ℕ) {w : Walked} (v : w ≡ walk img M S n a e c ms) where
-  walk_more : 0 < n
+pub walk-first : (img : List ℕ) (M S size a e c : ℕ) (ms : List ℕ) → walk img M S size a e c ms ≡ walk img M S (size - 0) a e c ms
+walk-first img M S size a e c ms = ap (λ (j : ℕ). walk img M S j a e c ms) (omega arith)
+
+module _ (img : List ℕ) (M S size a e c : ℕ) (ms : List ℕ) {w : Walked} (v : w ≡ walk img M S (size - c) a e c ms) where
+  walk_more : c < size
       → w ≡ pick (is_open M S ms a)
-      (walk img M S (n - 1) (link_of img (index S a)) a (c + 1) (with_mark S (index S a) ms))
+      (walk img M S (size - (c + 1)) (link_of img (index S a)) a (c + 1) (with_mark S (index S a) ms))
       (walked (record { end = e; count = c }) ms)
   unfolding walk
-  walk_more h = v ∙ ap (λ (j : ℕ). walk img M S j a e c ms) (one_left n h)
+  walk_more h = let one_less : size - c ≡ suc (size - (c + 1)) = omega arith in v ∙ ap (λ (j : ℕ). walk img M S j a e c ms) one_less
 
-  pub walk-done : n ≤ 0 → walked (record { end = e; count = c }) ms ≡ w
+  pub walk-done : c ≤ size → size ≤ c → walked (record { end = e; count = size }) ms ≡ w
   unfolding walk
-  walk-done h = rw (v, none_left n h) refl
+  walk-done l h =
+      let all : c ≡ size = omega arith in
+      let none : size - c ≡ 0 = omega arith in
+      rw (v, none, all) refl
 
-  pub walk-cut : {b : Bool} → 0 < n → b ≡ is_open M S ms a → b ≡ false → walked (record { end = e; count = c }) ms ≡ w
+  pub walk-cut : {b : Bool} → c < size → b ≡ is_open M S ms a → b ≡ false → walked (record { end = e; count = c }) ms ≡ w
   walk-cut h d k = rw (walk_more h, ← d, k) refl
 
-  pub walk-on : {b : Bool} {k next : ℕ} {ms' : List ℕ} → 0 < n → b ≡ is_open M S ms a → b ≡ true → k ≡ index S a → ms' ≡ with_mark S k ms → next ≡ link_of img k
-      → w ≡ walk img M S (n - 1) next a (c + 1) ms'
+  pub walk-on : {b : Bool} {k next : ℕ} {ms' : List ℕ} → c < size → b ≡ is_open M S ms a → b ≡ true → k ≡ index S a → ms' ≡ with_mark S k ms → next ≡ link_of img k
+      → w ≡ walk img M S (size - (c + 1)) next a (c + 1) ms'
   walk-on h d t p q l = rw (walk_more h, ← d, t, q, l, p) refl
 
 -- ---- files
 
-pub slot-done : (img : List ℕ) (S o start size : ℕ) (k : Kept) {first map at : ℕ} {img₁ img₂ : List ℕ} → first ≡ pick (eqb k.count 0) 0 start
+pub slot-done : (img : List ℕ) (S o start size : ℕ) (k : Kept) {first map : ℕ} {bs cs ds img₁ img₂ : List ℕ} → first ≡ pick (eqb k.count 0) 0 start
     → map ≡ pick (ltb k.count size) 0 (map_at img o)
-    → img₁ ≡ over img (o + start_in_slot)
-    (first / 256 % 256 ∷ first % 256 ∷ k.end / 256 % 256 ∷ k.end % 256 ∷ k.count / 256 % 256 ∷ k.count % 256 ∷ map ∷ [])
-    → at ≡ index S k.end → img₂ ≡ stored img₁ (linked (eqb k.count 0) at 0) → img₂ ≡ slot_mended img S o start size k
+    → bs ≡ first / 256 % 256 ∷ first % 256 ∷ [] → cs ≡ k.end / 256 % 256 ∷ k.end % 256 ∷ [] → ds ≡ k.count / 256 % 256 ∷ k.count % 256 ∷ []
+    → img₁ ≡ over img (o + start_in_slot) (get_or bs 0 0 ∷ get_or bs 1 0 ∷ get_or cs 0 0 ∷ get_or cs 1 0 ∷ get_or ds 0 0 ∷ get_or ds 1 0 ∷ map ∷ [])
+    → img₂ ≡ stored img₁ (linked (eqb k.count 0) (index S k.end) 0) → img₂ ≡ slot_mended img S o start size k
 unfolding slot_mended six one
-slot-done img S o start size k p q e r d = rw (d, e, r, p, q) refl
+slot-done img S o start size k p q x y z e d = rw (d, e, x, y, z, p, q) refl
 
 module _ (img : List ℕ) (M S o : ℕ) (ms : List ℕ) {a : Bool} (d : a ≡ live img o) where
   pub file-dead : a ≡ false → worked img ms ≡ file_mended img M S o ms
@@ -141,27 +132,27 @@ module _ (img : List ℕ) (M S o : ℕ) (ms : List ℕ) {a : Bool} (d : a ≡ li
   unfolding file_mended
   file-live h p q e f = rw (← d, h, ← p, ← q, ← e, f) refl
 
-pub files-first : (M S n : ℕ) (img ms : List ℕ) → n ≡ most_slots M S → files_mended M S (most_slots M S) first_slot img ms ≡ files_mended M S n first_slot img ms
-files-first M S n img ms h = rw h refl
+pub files-first : (M S n : ℕ) (img ms : List ℕ) → n ≡ most_slots M S → files_mended M S (most_slots M S) first_slot img ms ≡ files_mended M S (n - 0) first_slot img ms
+files-first M S n img ms h = ap (λ (j : ℕ). files_mended M S j first_slot img ms) (omega arith)
 
-module _ (M S n o : ℕ) (img ms : List ℕ) {w : Worked} (v : w ≡ files_mended M S n o img ms) where
-  pub files-none : n ≤ 0 → worked img ms ≡ w
+module _ (M S n i o : ℕ) (img ms : List ℕ) {w : Worked} (v : w ≡ files_mended M S (n - i) o img ms) where
+  pub files-none : n ≤ i → worked img ms ≡ w
   unfolding files_mended
-  files-none h = rw (v, none_left n h) refl
+  files-none h = let none : n - i ≡ 0 = omega arith in rw (v, none) refl
 
-  module _ {img' ms' : List ℕ} {l : Lookup} (h : 0 < n) (d : worked img' ms' ≡ file_mended img M S o ms) (e : l ≡ step_slot img' M S o) where
-    files-here : w ≡ on_there l (worked img' ms') (λ p. files_mended M S (n - 1) p img' ms')
+  module _ {img' ms' : List ℕ} {l : Result ℕ NoSlot} (h : i < n) (d : worked img' ms' ≡ file_mended img M S o ms) (e : l ≡ step_slot img' M S o) where
+    files-here : w ≡ on_there l (worked img' ms') (λ p. files_mended M S (n - (i + 1)) p img' ms')
     unfolding files_mended
-    files-here = v ∙ ap (λ (j : ℕ). files_mended M S j o img ms) (one_left n h) ∙ rw (← d, e) refl
+    files-here =
+        let one_less : n - i ≡ suc (n - (i + 1)) = omega arith in
+        v ∙ ap (λ (j : ℕ). files_mended M S j o img ms) one_less ∙ rw (← d, e) refl
 
-    pub files-next : {p : ℕ} → l ≡ At p → w ≡ files_mended M S (n - 1) p img' ms'
+    pub files-next : {p : ℕ} → l ≡ Ok p → w ≡ files_mended M S (n - (i + 1)) p img' ms'
     files-next t = rw (files-here, t) refl
 
-    pub files-last : l ≡ Missing → worked img' ms' ≡ w
-    files-last t = rw (files-here, t) refl
-
-    pub files-broken : l ≡ Broken → worked img' ms' ≡ w
-    files-broken t = rw (files-here, t) refl
+    pub files-end : {x : NoSlot} → l ≡ Err x → worked img' ms' ≡ w
+    files-end {x = Missing} t = rw (files-here, t) refl
+    files-end {x = Broken} t = rw (files-here, t) refl
 
 -- ---- the free chain
 
@@ -216,8 +207,21 @@ pub front-room : (S i n X : ℕ) (ms : List ℕ) (f : Free) (img : List ℕ) {r 
     → f.count + n ≤ X → r.count + (n - 1) ≤ X
 front-room S i n X ms f img d h k = omega (arith, front-most S i ms f img d)
 
-pub chaining-first : (M S n : ℕ) (ms : List ℕ) (f : Free) (img : List ℕ) → n ≡ M * S → chaining S ms (M * S) f img ≡ chaining S ms n f img
-chaining-first M S n ms f img h = rw h refl
+pub free_room : (X n : ℕ) (f : Free) {k : ℕ} → k ≡ X → k < 65536 → 0 < n → f.count + n ≤ X → (n - 1 < X) × (f.count < 65535)
+free_room X n f e h p q = (omega arith, omega arith)
+
+module _ (f : Free) (a : f.first ≡ 0) (b : f.last ≡ 0) (c : f.count ≡ 0) where
+  pub chaining-first : (M S n : ℕ) (ms img : List ℕ) → n ≡ M * S → chaining S ms (M * S) no_free img ≡ chaining S ms n f img
+  chaining-first M S n ms img h =
+      let none : f ≡ no_free =
+      ap (λ (x : ℕ). record { first = x; last = f.last; count = f.count }) a
+      ∙ ap (λ (x : ℕ). record { first = 0; last = x; count = f.count }) b
+      ∙ ap (λ (x : ℕ). record { first = 0; last = 0; count = x }) c
+      in
+      rw (h, none) refl
+
+  pub none-counted : (X n : ℕ) → n ≡ X → f.count + n ≤ X
+  none-counted X n h = omega arith
 
 module _ (S n : ℕ) (ms : List ℕ) (f : Free) (img : List ℕ) {w : Chained} (v : w ≡ chaining S ms n f img) where
   pub chaining-none : n ≤ 0 → chained f img ≡ w
@@ -272,16 +276,16 @@ module _ (img tab : List ℕ) where
     unfolding repair
     repair-open h = rw (eq-eqb (length tab) (block_length * blocks) t, ← a, h) refl
 
-    module _ {s : Shaped} (h : closed ≡ true) (e : s ≡ shape_of img) where
-      pub repair-wrong : s ≡ Wrong → told 41 img ≡ repair img tab
+    module _ {s : Option read.Shape} (h : closed ≡ true) (e : s ≡ shape_of img) where
+      pub repair-wrong : s ≡ None → told 41 img ≡ repair img tab
       unfolding repair
-      repair-wrong k = rw (eq-eqb (length tab) (block_length * blocks) t, ← a, h, wrong-is img e k) refl
+      repair-wrong k = rw (eq-eqb (length tab) (block_length * blocks) t, ← a, h, none-is img e k) refl
 
-      pub repair-right : {d : read.Shape} {w : Told} → s ≡ Right d → w ≡ tried img d.last d.per → w ≡ repair img tab
+      pub repair-right : {d : read.Shape} {w : Told} → s ≡ Some d → w ≡ tried img d.last d.per → w ≡ repair img tab
       unfolding repair tried
       repair-right k q =
-          let r = right_is img e k in
+          let r = some_is img e k in
           rw (eq-eqb (length tab) (block_length * blocks) t, ← a, h, r.0) (rw (r.1, r.2) at q)
 
-pub repair-shape : (img : List ℕ) {s : Shaped} {d : read.Shape} → s ≡ shape_of img → s ≡ Right d → Shape d.last d.per
-repair-shape img e k = let r = right_is img e k in rw (r.1, r.2) (shape_is img r.0).shape
+pub repair-shape : (img : List ℕ) {s : Option read.Shape} {d : read.Shape} → s ≡ shape_of img → s ≡ Some d → Shape d.last d.per
+repair-shape img e k = let r = some_is img e k in rw (r.1, r.2) (shape_is img r.0).shape

@@ -1,5 +1,5 @@
 -- Repair as the code makes it comes to repair of rules.
-use Rattle.std.specs.Prelude.{◌≡◌, Bool, true, length, get_or, set, replicate, eqb}
+use Rattle.std.specs.Prelude.{◌≡◌, Bool, true, length, get_or, set, replicate, eqb, Result, Ok, Err}
 use Rattle.std.proofs.Math.Path.{refl, sym, ap}
 use Rattle.std.proofs.Common.{ap₂, ◌∙◌, subst}
 use Rattle.std.proofs.Math.Bool.{false}
@@ -14,8 +14,8 @@ use Rattle.rules.specs.Image.{index, address_of, adr, is_data, link_of, info_sec
 use Rattle.rules.specs.Directory.{directory_right, directory, slots, live, member, first, last_of, chain_record, start_in_slot, start_at, size_at}
 use Rattle.rules.specs.Transfer.{linked}
 use Rattle.rules.specs.Repair.{kept_from, kept_by, others, mend_slot, mend_file, links, mend_free, mended}
-use Rattle.rules.specs.declared.Lookup.{Lookup}
-use Rattle.rules.specs.declared.Lookup.TheVariants.{At, Missing, Broken}
+use Rattle.rules.specs.declared.NoSlot.{NoSlot}
+use Rattle.rules.specs.declared.NoSlot.TheVariants.{Missing, Broken}
 use Rattle.laws.specs.Bytes.{over-one}
 use Rattle.laws.specs.Small.{Small, small_word}
 use Rattle.laws.specs.Stores.{stored-append}
@@ -173,11 +173,11 @@ visits-same m m₁ M S (suc n) o h =
     Same : List ℕ → Type 0
     Same os = (i : ℕ) → i < length os → link_of m₁ (get_or os i 0 / 256) ≡ link_of m (get_or os i 0 / 256)
 
-    go : (t : Lookup) → Same (o ∷ on_there t [] (λ p. visits m M S n p)) → ((p : ℕ) → Same (visits m M S n p) → visits m₁ M S n p ≡ visits m M S n p)
+    go : (t : Result ℕ NoSlot) → Same (o ∷ on_there t [] (λ p. visits m M S n p)) → ((p : ℕ) → Same (visits m M S n p) → visits m₁ M S n p ≡ visits m M S n p)
         → ◌≡◌ {A = List ℕ} (o ∷ on_there t [] (λ p. visits m₁ M S n p)) (o ∷ on_there t [] (λ p. visits m M S n p))
-    go (At p) g ih = ap (λ (l : List ℕ). o ∷ l) (ih p (λ i b. g (suc i) (omega arith)))
-    go Missing g ih = refl
-    go Broken g ih = refl
+    go (Ok p) g ih = ap (λ (l : List ℕ). o ∷ l) (ih p (λ i b. g (suc i) (omega arith)))
+    go (Err Missing) g ih = refl
+    go (Err Broken) g ih = refl
 
 -- image and marks after all files' stores, made in the image
 record Placed (M S : ℕ) (m held os : List ℕ) (w : Worked) : Type 0 where
@@ -204,28 +204,28 @@ module _ (M S : ℕ) (z : Shape M S) where
       once-by-next : Spread held (visits m M S (suc n) o) → (x : ℕ) → tally x (l ++ held) ≤ 1
       once-by-next d = once-next M S z m held o (on_there (step_slot m M S o) [] (λ q. visits m M S n q)) small d h
 
-      next : List ℕ → Lookup → Worked
+      next : List ℕ → Result ℕ NoSlot → Worked
       next ks t = on_there t (worked m₁ ks) (λ q. files_mended M S n q m₁ ks)
 
-      go : (t : Lookup) → step_slot m M S o ≡ t → Spread held (o ∷ on_there t [] (λ q. visits m M S n q)) → (w : Works M S z m small held l o (file_mended m M S o ms))
+      go : (t : Result ℕ NoSlot) → step_slot m M S o ≡ t → Spread held (o ∷ on_there t [] (λ q. visits m M S n q)) → (w : Works M S z m small held l o (file_mended m M S o ms))
           → ((q : ℕ) → Small m₁ → Spread (l ++ held) (visits m₁ M S n q) → Placed M S m₁ (l ++ held) (visits m₁ M S n q) (files_mended M S n q m₁ w.after))
           → Placed M S m held (o ∷ on_there t [] (λ q. visits m M S n q))
           (on_worked (file_mended m M S o ms) (λ img' ms'. on_there (step_slot img' M S o) (worked img' ms') (λ q. files_mended M S n q img' ms')))
       go t e d w ih = by t d (ap (λ (x : Worked). on_worked x (λ img' ms'. on_there (step_slot img' M S o) (worked img' ms') (λ q. files_mended M S n q img' ms'))) w.is ∙ ap (next w.after) (way t d e))
         where
-          way : (t : Lookup) → Spread held (o ∷ on_there t [] (λ q. visits m M S n q)) → step_slot m M S o ≡ t → step_slot m₁ M S o ≡ t
+          way : (t : Result ℕ NoSlot) → Spread held (o ∷ on_there t [] (λ q. visits m M S n q)) → step_slot m M S o ≡ t → step_slot m₁ M S o ≡ t
           way t d e = step_same m m₁ M S o (way_next M S z m held o (on_there t [] (λ q. visits m M S n q)) small d h 0 (omega arith)) ∙ e
 
-          by : (t : Lookup) → Spread held (o ∷ on_there t [] (λ q. visits m M S n q)) → {y : Worked} → y ≡ next w.after t
+          by : (t : Result ℕ NoSlot) → Spread held (o ∷ on_there t [] (λ q. visits m M S n q)) → {y : Worked} → y ≡ next w.after t
               → Placed M S m held (o ∷ on_there t [] (λ q. visits m M S n q)) y
-          by (At q) d f =
+          by (Ok q) d f =
               let os : List ℕ = visits m M S n q in
               let v : visits m₁ M S n q ≡ os = visits-same m m₁ M S n q (λ i b. way_next M S z m held o os small d h (suc i) (omega arith)) in
               let x = subst (λ (ps : List ℕ). Placed M S m₁ (l ++ held) ps (files_mended M S n q m₁ w.after)) v
               (ih q (small-next M S z m held o os small d h) (subst (Spread (l ++ held)) (sym v) (spread-next M S z m held o os small d h))) in
               record { after = x.after; is = f ∙ x.is; marks = x.marks }
-          by Missing d f = record { after = w.after; is = f; marks = w.marks }
-          by Broken d f = record { after = w.after; is = f; marks = w.marks }
+          by (Err Missing) d f = record { after = w.after; is = f; marks = w.marks }
+          by (Err Broken) d f = record { after = w.after; is = f; marks = w.marks }
 
 -- ---- the free chain
 

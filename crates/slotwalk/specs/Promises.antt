@@ -1,11 +1,11 @@
 -- No second outcome fits the promise of a public function of this crate.
+use Rattle.std.specs.Prelude.{Some}
 use Rattle.std.specs.Prelude.{List, ◌≡◌, ℕ}
 use Rattle.rules.specs.Bytes.{over}
 use Rattle.rules.specs.Directory.{directory, slots}
 use Rattle.rules.specs.Census.{twins}
 use Rattle.laws.specs.Single.{Single, single}
 use Rattle.census_laws.specs.Numbered.{files_numbered}
-use Rattle.census_laws.specs.declared.Listing.TheVariants.{Many}
 use Rattle.census_laws.specs.Walks.{Laid, laid, sectors, files, SingleLaid, single-laid}
 
 -- the answer alone: what the table that is lent to it holds then is left open
@@ -14,7 +14,7 @@ has-twins-single img M S = single (twins img (slots img M S))
 
 -- the answer is how many, and with the output it is one list
 abbrev pub SingleMany : Laid → Type 0
-SingleMany l = (n n' : ℕ) (out out' : List ℕ) → laid (Many n) out ≡ l → laid (Many n') out' ≡ l → (n ≡ n') × (out ≡ out')
+SingleMany l = (n n' : ℕ) (out out' : List ℕ) → laid (Some n) out ≡ l → laid (Some n') out' ≡ l → (n ≡ n') × (out ≡ out')
 
 pub list-directory-single : (img : List ℕ) (M S : ℕ) (out : List ℕ) (at : ℕ) → SingleMany (sectors S (directory img M S) out at 0)
 list-directory-single img M S out at n n' ys ys' p q = (cc, cc)

@@ -1,89 +1,46 @@
-// Passes over the directory: its sectors, one behind the other, of which it lists those that are data sectors; and its slots, one behind
-// the other: names, files' chains, owners. All are total.
+// Passes over the directory: its sectors, of which it lists those that are data sectors; and its slots: names, files' chains, owners.
+// All are total.
 #![tactic(auto)]
 
-ghost use Rattle.std.specs.Prelude.{◌≡◌, false, ◌<◌};
+ghost use Rattle.std.specs.Prelude.{◌≡◌, false, ◌<◌, Some};
 ghost use Rattle.rules.specs.Bytes.{pick, part, over, same};
 ghost use Rattle.rules.specs.Directory.{live, named, directory, slots, size_at};
 ghost use Rattle.rules.specs.Census.{namesake, twins};
-ghost use Rattle.laws.specs.Visits.{visits};
-ghost use Rattle.census_laws.specs.Numbered.{number_behind, files_numbered};
+ghost use Rattle.directory.specs.Walks.{slots_left};
+ghost use Rattle.census_laws.specs.Numbered.{files_numbered};
 ghost use Rattle.census_laws.specs.Table.{code_of, slot_of, mixed, first_place, place_behind, spot, entered, noted, enter, entering};
 ghost use Rattle.census_laws.specs.Walks.{laid, sector, sectors, file, files};
-ghost use Rattle.census_laws.specs.declared.Listing.TheVariants.{Many};
 
-use cells::{get, get2};
-use census_laws::{Listing, Seen, Spot};
+use cells::{entry, fill, get, get2, place, run};
+use census_laws::Clash;
 use chainwalk::chain_at;
-use directory::{is_live, most_of, most_slots, next_of, same_name, step_slot};
-use outputs::{entry, fill, place, run};
-use rules::place::{FIRST_SECTOR, FIRST_SLOT};
-use rules::{Lookup, Next};
+use directory::{SlotWalk, is_live, same_name, sectors, slots};
+use disk::Shape;
 
 // Is a slot live with the name of this one?
 fn is_namesake(image: &[u8], this: u32, slot: u32) -> bool
     ensures { result ≡ named image.now (part image.now this 11) slot }
 {
-    let alive = is_live(image, slot);
-    if !alive {
-        return false;
-    }
-    same_name(image, slot, image, this as usize)
+    is_live(image, slot) && same_name(image, slot, image, this as usize)
 }
 
-// Is one of so many slots live with the name of this one, from a slot on?
-fn has_namesake(image: &[u8], last: u8, per: u8, this: u32, first: u32, count: u32) -> bool
-    ensures { result ≡ namesake image.now this (visits image.now last per count first) }
+// Is this slot live, and one of those that a walk has left live with its name?
+fn has_twin(image: &[u8], this: u32, mut rest: SlotWalk) -> bool
+    ensures { result ≡ pick (live image.now this) (namesake image.now this (slots_left rest.entry)) false }
 {
-    let mut left = count;
-    let mut slot = first;
-    while left > 0 {
-        let found = is_namesake(image, this, slot);
-        if found {
+    is_live(image, this) && rest.any(|slot| is_namesake(image, this, slot))
+}
+
+// Are there two live slots with one name? Each is compared with those behind it: it takes long, and needs no room. No `for`: what is behind
+// a slot is the walk itself, which the loop lends out.
+fn has_pair(image: &[u8], shape: Shape) -> bool
+    ensures { result ≡ twins image.now (slots image.now shape.last shape.per) }
+{
+    let mut walk = slots(image, shape);
+    while let Some(slot) = walk.next() {
+        if has_twin(image, slot, walk) {
             return true;
         }
-        let next = step_slot(image, last, per, slot);
-        match next {
-            Lookup::At(behind) => slot = behind,
-            Lookup::Missing => return false,
-            Lookup::Broken => return false,
-        }
-        left -= 1;
-    }
-    false
-}
-
-// Is this slot live, and one of those behind it live with its name?
-fn has_twin(image: &[u8], last: u8, per: u8, this: u32, behind: u32, count: u32) -> bool
-    ensures { result ≡ pick (live image.now this) (namesake image.now this (visits image.now last per count behind)) false }
-{
-    let alive = is_live(image, this);
-    if !alive {
-        return false;
-    }
-    has_namesake(image, last, per, this, behind, count)
-}
-
-// Are there two live slots with one name? Each is compared with those behind it: it takes long, and needs no room.
-fn has_pair(image: &[u8], last: u8, per: u8) -> bool
-    ensures { result ≡ twins image.now (slots image.now last per) }
-{
-    let mut left = most_slots(last, per);
-    let mut slot = FIRST_SLOT;
-    while left > 0 {
-        let next = step_slot(image, last, per, slot);
-        match next {
-            Lookup::At(behind) => {
-                let twin = has_twin(image, last, per, slot, behind, left - 1);
-                if twin {
-                    return true;
-                }
-                slot = behind;
-            }
-            Lookup::Missing => return false,
-            Lookup::Broken => return false,
-        }
-        left -= 1;
     }
     false
 }
@@ -127,219 +84,146 @@ fn mixed(image: &[u8], slot: u32) -> usize
 fn first_place(image: &[u8], slot: u32, n: usize) -> usize
     ensures { result ≡ first_place n (part image.now slot 11) }
 {
-    if n == 0 {
-        return 0;
-    }
-    mixed(image, slot) % n
+    mixed(image, slot).checked_rem(n).unwrap_or(0)
 }
 
 // The place behind a place.
 fn place_behind(n: usize, at: usize) -> usize
     ensures { result ≡ place_behind n at }
 {
-    if n <= at {
-        return 0;
-    }
-    if at + 1 < n {
-        return at + 1;
-    }
-    0
+    let behind = at.saturating_add(1);
+    if behind < n { behind } else { 0 }
 }
 
 // Where a table of n entries has a slot's name.
-fn spot_of(image: &[u8], slot: u32, marks: &[u16], n: usize) -> Spot
+fn spot_of(image: &[u8], slot: u32, marks: &[u16], n: usize) -> Result<usize, Clash>
     ensures { result ≡ spot image.now n marks.now (part image.now slot 11) }
 {
-    let mut left = n;
     let mut at = first_place(image, slot, n);
-    while left > 0 {
-        let e = entry(marks, at);
+    for _ in 0..n {
+        let e = entry(marks, at, 0);
         if e == 0 {
-            return Spot::Free(at);
+            return Ok(at);
         }
-        let own = is_own(image, e, slot);
-        if own {
-            return Spot::Taken;
+        if is_own(image, e, slot) {
+            return Err(Clash::Twice);
         }
         at = place_behind(n, at);
-        left -= 1;
     }
-    Spot::Full
+    Err(Clash::Unknown)
 }
 
 // A slot's entry stored at a place, if it is a number of two bytes.
-fn note(slot: u32, marks: &mut [u16], at: usize) -> Seen
+fn note(slot: u32, marks: &mut [u16], at: usize) -> Result<(), Clash>
     ensures { entered result marks.new ≡ noted slot marks.old at }
 {
-    let c = code_of(slot);
-    if c >= 65535 {
-        return Seen::Unknown;
-    }
-    place(marks, at, 0, c as u16 + 1);
-    Seen::Once
+    let Ok(e) = u16::try_from(code_of(slot) + 1) else {
+        return Err(Clash::Unknown);
+    };
+    place(marks, at, 0, e);
+    Ok(())
 }
 
 // A slot's name entered in a table of n entries, if the slot is live.
-fn enter(image: &[u8], slot: u32, marks: &mut [u16], n: usize) -> Seen
+fn enter(image: &[u8], slot: u32, marks: &mut [u16], n: usize) -> Result<(), Clash>
     ensures { entered result marks.new ≡ enter image.now n slot marks.old }
 {
-    let alive = is_live(image, slot);
-    if !alive {
-        return Seen::Once;
+    if !is_live(image, slot) {
+        return Ok(());
     }
-    let spot = spot_of(image, slot, marks, n);
-    match spot {
-        Spot::Free(at) => note(slot, marks, at),
-        Spot::Taken => Seen::Twice,
-        Spot::Full => Seen::Unknown,
-    }
+    let at = spot_of(image, slot, marks, n)?;
+    note(slot, marks, at)
 }
 
 // The names of all slots entered, up to one that is met again.
-fn enter_all(image: &[u8], last: u8, per: u8, marks: &mut [u16], n: usize) -> Seen
-    ensures { entered result marks.new ≡ entering image.now n (slots image.now last per) marks.old }
+fn enter_all(image: &[u8], shape: Shape, marks: &mut [u16], n: usize) -> Result<(), Clash>
+    ensures { entered result marks.new ≡ entering image.now n (slots image.now shape.last shape.per) marks.old }
 {
-    let mut left = most_slots(last, per);
-    let mut slot = FIRST_SLOT;
-    while left > 0 {
-        let seen = enter(image, slot, marks, n);
-        match seen {
-            Seen::Once => {}
-            Seen::Twice => return Seen::Twice,
-            Seen::Unknown => return Seen::Unknown,
-        }
-        let next = step_slot(image, last, per, slot);
-        match next {
-            Lookup::At(behind) => slot = behind,
-            Lookup::Missing => return Seen::Once,
-            Lookup::Broken => return Seen::Once,
-        }
-        left -= 1;
+    for slot in slots(image, shape) {
+        enter(image, slot, marks, n)?;
     }
-    Seen::Once
+    Ok(())
 }
 
 // Are there two live slots with one name? By a table of names in a slice that is lent for it; where that has too few entries, each is
 // compared with those behind it.
-pub fn has_twins(image: &[u8], last: u8, per: u8, marks: &mut [u16]) -> bool
-    ensures { result ≡ twins image.now (slots image.now last per) }
+pub fn has_twins(image: &[u8], shape: Shape, marks: &mut [u16]) -> bool
+    ensures { result ≡ twins image.now (slots image.now shape.last shape.per) }
 {
     fill(marks, 0);
-    let seen = enter_all(image, last, per, marks, marks.len());
-    match seen {
-        Seen::Once => false,
-        Seen::Twice => true,
-        Seen::Unknown => has_pair(image, last, per),
+    match enter_all(image, shape, marks, marks.len()) {
+        Ok(()) => false,
+        Err(Clash::Twice) => true,
+        Err(Clash::Unknown) => has_pair(image, shape),
     }
 }
 
 // A sector of the directory listed behind n numbers, if it is a data sector; how many there are then.
-fn list_sector(per: u8, k: u16, out: &mut [u16], at: u16, n: u16) -> u16
+fn list_sector(shape: Shape, k: u16, out: &mut [u16], at: u16, n: u16) -> u16
     requires { n < 65535 }
-    ensures { laid (Many result) out.new ≡ sector per k out.old at n }
+    ensures { laid (Some result) out.new ≡ sector shape.per k out.old at n }
 {
-    if k < per as u16 {
+    if k < shape.per as u16 {
         return n;
     }
-    place(out, at as usize, n as usize, k - per as u16);
+    place(out, at as usize, n as usize, k - shape.per as u16);
     n + 1
 }
 
 // The data sectors of the directory listed from a place on; how many there are.
-pub fn list_directory(image: &[u8], last: u8, per: u8, out: &mut [u16], from: u16) -> u16
-    ensures { laid (Many result) out.new ≡ sectors per (directory image.now last per) out.old from 0 }
+pub fn list_directory(image: &[u8], shape: Shape, out: &mut [u16], from: u16) -> u16
+    ensures { laid (Some result) out.new ≡ sectors shape.per (directory image.now shape.last shape.per) out.old from 0 }
 {
-    let mut left = most_of(last, per);
-    let mut k = FIRST_SECTOR;
     let mut n = 0u16;
-    while left > 0 {
-        n = list_sector(per, k, out, from, n);
-        let next = next_of(image, last, per, k);
-        match next {
-            Next::End => return n,
-            Next::Astray => return n,
-            Next::To(j) => k = j,
-        }
-        left -= 1;
+    for k in sectors(image, shape) {
+        n = list_sector(shape, k, out, from, n);
     }
     n
 }
 
 // A slot's file listed from a place on, if the slot is live.
-fn list_file(image: &[u8], last: u8, per: u8, slot: u32, out: &mut [u16], at: usize) -> Listing
-    ensures { laid result out.new ≡ file image.now last per slot out.old at }
+fn list_file(image: &[u8], shape: Shape, slot: u32, out: &mut [u16], at: usize) -> Option<usize>
+    ensures { laid result out.new ≡ file image.now shape.last shape.per slot out.old at }
 {
-    let alive = is_live(image, slot);
-    if !alive {
-        return Listing::Many(0);
+    if !is_live(image, slot) {
+        return Some(0);
     }
-    chain_at(image, last, per, slot, out, at)
+    chain_at(image, shape, slot, out, at)
 }
 
 // The files of all slots listed, behind so many numbers; how many there are then.
-pub fn list_files(image: &[u8], last: u8, per: u8, out: &mut [u16], from: u32) -> Listing
-    ensures { laid result out.new ≡ files image.now last per (slots image.now last per) out.old from }
+pub fn list_files(image: &[u8], shape: Shape, out: &mut [u16], from: u32) -> Option<usize>
+    ensures { laid result out.new ≡ files image.now shape.last shape.per (slots image.now shape.last shape.per) out.old from }
 {
-    let mut left = most_slots(last, per);
-    let mut slot = FIRST_SLOT;
     let mut n = from as usize;
-    while left > 0 {
-        let listing = list_file(image, last, per, slot, out, n);
-        match listing {
-            Listing::Many(m) => n += m,
-            Listing::Wrong => return Listing::Wrong,
-        }
-        let next = step_slot(image, last, per, slot);
-        match next {
-            Lookup::At(behind) => slot = behind,
-            Lookup::Missing => return Listing::Many(n),
-            Lookup::Broken => return Listing::Many(n),
-        }
-        left -= 1;
+    for slot in slots(image, shape) {
+        n += list_file(image, shape, slot, out, n)?;
     }
-    Listing::Many(n)
+    Some(n)
 }
 
 // How many sectors a slot's file has, if the slot is live.
 fn held(image: &[u8], slot: u32) -> u16
     ensures { result ≡ pick (live image.now slot) (size_at image.now slot) 0 }
 {
-    let alive = is_live(image, slot);
-    if !alive {
-        return 0;
+    if is_live(image, slot) {
+        get2(image, slot as usize + 17)
+    } else {
+        0
     }
-    get2(image, slot as usize + 17)
 }
 
-// The number of the slot behind the one with this number, as far as an output can hold it. A diskette has fewer slots.
-fn number_behind(owner: u16) -> u16
-    ensures { result ≡ number_behind owner }
+// The owners of all files' sectors stored from a place on: each slot's number, counted from 1, as far as an output can hold it. A diskette has
+// fewer slots.
+pub fn own_files(image: &[u8], shape: Shape, out: &mut [u16], from: u32)
+    ensures { out.new ≡ over out.old from (files_numbered image.now 1 (slots image.now shape.last shape.per)) }
 {
-    if owner < 65535 {
-        return owner + 1;
-    }
-    65535
-}
-
-// The owners of all files' sectors stored from a place on: each slot's number, counted from 1.
-pub fn own_files(image: &[u8], last: u8, per: u8, out: &mut [u16], from: u32)
-    ensures { out.new ≡ over out.old from (files_numbered image.now 1 (slots image.now last per)) }
-{
-    let mut left = most_slots(last, per);
-    let mut slot = FIRST_SLOT;
     let mut at = from as usize;
     let mut owner = 1u16;
-    while left > 0 {
+    for slot in slots(image, shape) {
         let n = held(image, slot) as usize;
         run(out, at, n, owner);
         at += n;
-        owner = number_behind(owner);
-        let next = step_slot(image, last, per, slot);
-        match next {
-            Lookup::At(behind) => slot = behind,
-            Lookup::Missing => return,
-            Lookup::Broken => return,
-        }
-        left -= 1;
+        owner = owner.saturating_add(1);
     }
 }

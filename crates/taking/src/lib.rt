@@ -1,20 +1,23 @@
 // Taking the first sector off the free chain, for a file or for the directory; and taking a sector for a file that is written: all is
-// loaded first, then tested in 01's order, then stored. A block begins at f; M is `last`, S is `per`.
+// loaded first, then tested in 01's order, then stored. A block begins at f.
+// The table and f stay two parameters: why is told in `blocks`.
 #![tactic(auto)]
 
 ghost use Rattle.std.specs.Prelude.{◌≡◌, [], ◌∷◌, ◌+◌, ◌-◌, ◌*◌, ◌/◌, ◌%◌, eqb};
 ghost use Rattle.rules.specs.Bytes.{pick, over, six};
 ghost use Rattle.rules.specs.Stores.{stored, puts};
 ghost use Rattle.rules.specs.Image.{index};
+ghost use Rattle.rules.specs.Refusals.{number_of};
 ghost use Rattle.rules.specs.Outcome.{out, left};
-ghost use Rattle.rules.specs.Transfer.{off_free, slot_in, fresh, linked, take_puts, take_for, take_sector};
-ghost use Rattle.taking.specs.Take.{free_fault, follows, block_of, plan_of, longer_stores, take_by, taken};
+ghost use Rattle.rules.specs.Transfer.{off_free, slot_in, fresh, linked, take_puts, take_sector};
+ghost use Rattle.taking.specs.Take.{free_sector, follows, block_of, longer_stores, take_by, taken};
 
 use cells::{clear, get, get2, put, put2, put6};
 use directory::placed;
-use disk::{free_of, fresh_sector, index_of, is_data, link, link_of, put_free};
-use rules::Lookup;
+use disk::{Shape, free_of, fresh_sector, link, link_of, put_free};
 use rules::block::{BUFFER, INDEX, NUMBER, PLACE, POSITION, SIZE, START};
+use rules::refusal::Refusal;
+use rules::{NoSlot, slot};
 
 // What a block says of the file that it writes.
 #[derive(Clone, Copy)]
@@ -22,15 +25,6 @@ struct Block {
     pub position: u16,
     pub start: u16,
     pub size: u16,
-}
-
-// What is known before a sector is taken: may the former position be followed, the free chain's refusal or 0, and the sector that
-// it would give.
-#[derive(Clone, Copy)]
-struct Plan {
-    pub follows: bool,
-    pub fault: u8,
-    pub new: u16,
 }
 
 // A file with one sector more: the position that was its last, the sector taken, start and size with it.
@@ -42,138 +36,97 @@ struct Longer {
     pub size: u16,
 }
 
-// Does the free chain give a sector? 0, or the number of the refusal.
-pub fn free_fault(image: &[u8], last: u8, per: u8) -> u8
-    ensures { result ≡ free_fault image.now last per }
+// The sector that the free chain gives: its first, or why it gives none.
+pub fn free_sector(image: &[u8], shape: Shape) -> Result<u16, Refusal>
+    ensures { result ≡ free_sector image.now shape.last shape.per }
 {
     let free = free_of(image);
     if free.count == 0 {
-        return 7;
+        return Err(Refusal::DiskFull);
     }
-    let right = is_data(last, per, free.first);
-    if !right {
-        return 10;
+    if !shape.is_data(free.first) {
+        return Err(Refusal::BadWrite);
     }
-    0
-}
-
-// One less; 0 stays 0, a count that `free_fault` refuses before.
-fn one_less(n: u16) -> u16
-    ensures { result ≡ n - 1 }
-{
-    if n == 0 {
-        return 0;
-    }
-    n - 1
+    Ok(free.first)
 }
 
 // The first sector off the free chain, which then begins at that sector's link.
-pub fn take_off(image: &mut [u8], per: u8)
-    ensures { image.new ≡ stored image.old (off_free image.old per ∷ []) }
+pub fn take_off(image: &mut [u8], shape: Shape)
+    ensures { image.new ≡ stored image.old (off_free image.old shape.per ∷ []) }
 {
     let free = free_of(image);
     if free.count == 1 {
         clear(image, 256 * 2 + 29, 6);
         return;
     }
-    let next = link_of(image, index_of(per, free.first));
-    put_free(image, next, free.last, one_less(free.count));
+    let next = link_of(image, shape.index_of(free.first));
+    let count = free.count.saturating_sub(1); // 0 is refused before, by `free_sector`
+    put_free(image, next, free.last, count);
 }
 
 // The slot that the block's place names.
-pub fn slot_of(image: &[u8], table: &[u8], last: u8, per: u8, f: u16) -> Lookup
-    ensures { result ≡ slot_in image.now table.now last per f }
+pub fn slot_of(image: &[u8], table: &[u8], shape: Shape, f: u16) -> Result<u32, NoSlot>
+    ensures { result ≡ slot_in image.now table.now shape.last shape.per f }
 {
-    let track = get(table, f as usize + PLACE);
-    let sector = get(table, f as usize + PLACE + 1);
-    let displacement = get(table, f as usize + PLACE + 1 + 1);
-    placed(
-        image,
-        last,
-        per,
-        256 * track as u16 + sector as u16,
-        displacement,
-    )
+    let at = f as usize + PLACE;
+    placed(image, shape, get2(table, at), get(table, at + 2))
 }
 
 // May a sector follow this position: none, or a data sector?
-fn may_follow(last: u8, per: u8, position: u16) -> bool
-    ensures { result ≡ follows last per position }
+fn may_follow(shape: Shape, position: u16) -> bool
+    ensures { result ≡ follows shape.last shape.per position }
 {
-    if position == 0 {
-        return true;
-    }
-    is_data(last, per, position)
-}
-
-// A file's start after its first sector was taken: that sector where it had none.
-fn start_after(start: u16, new: u16) -> u16
-    ensures { result ≡ pick (eqb start 0) new start }
-{
-    if start == 0 {
-        return new;
-    }
-    start
+    position == 0 || shape.is_data(position)
 }
 
 fn block_of(table: &[u8], f: u16) -> Block
     ensures { result ≡ block_of table.now f }
 {
-    let position = get2(table, f as usize + POSITION);
-    let start = get2(table, f as usize + START);
-    let size = get2(table, f as usize + SIZE);
     Block {
-        position,
-        start,
-        size,
-    }
-}
-
-fn plan_of(image: &[u8], last: u8, per: u8, block: Block) -> Plan
-    ensures { result ≡ plan_of image.now last per block }
-{
-    let follows = may_follow(last, per, block.position);
-    let fault = free_fault(image, last, per);
-    let free = free_of(image);
-    Plan {
-        follows,
-        fault,
-        new: free.first,
+        position: get2(table, f as usize + POSITION),
+        start: get2(table, f as usize + START),
+        size: get2(table, f as usize + SIZE),
     }
 }
 
 // The new sector stored at its address.
-fn store_new(image: &mut [u8], per: u8, new: u16, size: u16)
-    ensures { image.new ≡ over image.old (256 * index per new) (fresh size) }
+fn store_new(image: &mut [u8], shape: Shape, new: u16, size: u16)
+    ensures { image.new ≡ over image.old (256 * index shape.per new) (fresh size) }
 {
-    let k = index_of(per, new);
+    let k = shape.index_of(new);
     fresh_sector(image, 256 * k as usize, size);
 }
 
 // The former position's link, unless that is 0,0.
-fn link_former(image: &mut [u8], per: u8, former: u16, new: u16)
-    ensures { image.new ≡ stored image.old (linked (eqb former 0) (index per former) new) }
+fn link_former(image: &mut [u8], shape: Shape, former: u16, new: u16)
+    ensures { image.new ≡ stored image.old (linked (eqb former 0) (index shape.per former) new) }
 {
-    let k = index_of(per, former);
-    link(image, former == 0, k, new);
+    if former != 0 {
+        link(image, shape.index_of(former), new);
+    }
 }
 
 // A slot's start, end and size.
-fn put_chain(image: &mut [u8], slot: u32, start: u16, end: u16, size: u16)
-    ensures { image.new ≡ over image.old (256 * (slot / 256) + (slot % 256 + 13)) (six start end size) }
+fn put_chain(image: &mut [u8], slot: u32, file: Longer)
+    ensures { image.new ≡ over image.old (slot + 13) (six file.start file.new file.size) }
 {
-    let at = 256 * (slot / 256) as usize + ((slot % 256) as usize + 13);
-    put6(image, at, start, end, size);
+    put6(
+        image,
+        slot as usize + slot::START,
+        file.start,
+        file.new,
+        file.size,
+    );
 }
 
 // The image after a sector was taken: the free chain, the new sector, the former position's link, the slot.
-fn take_image(image: &mut [u8], per: u8, slot: u32, file: Longer)
-    ensures { image.new ≡ stored image.old (longer_stores image.old per slot file) }
+fn take_image(image: &mut [u8], shape: Shape, slot: u32, file: Longer)
+    ensures { image.new ≡ stored image.old (longer_stores image.old shape.per slot file) }
 {
-    take_off(image, per);
-    store_new(image, per, file.new, file.size);
-    link_former(image, per, file.former, file.new);
-    put_chain(image, slot, file.start, file.new, file.size);
+    take_off(image, shape);
+    store_new(image, shape, file.new, file.size);
+    link_former(image, shape, file.former, file.new);
+    put_chain(image, slot, file);
 }
 
 // The block after a sector was taken.
@@ -187,56 +140,45 @@ fn take_table(table: &mut [u8], f: u16, file: Longer)
     put(table, f as usize + INDEX, 4);
 }
 
-// The tests in their order, then the stores. The number of the refusal, or 0; neither is stored.
+// The tests in their order, then the stores; a refusal stores nothing.
 fn take_by(
     image: &mut [u8],
     table: &mut [u8],
-    per: u8,
+    shape: Shape,
     f: u16,
     slot: u32,
     block: Block,
-    plan: Plan,
-) -> u8
-    ensures { out result 0 image.new table.new ≡ left image.old table.old f (taken (take_by image.old per slot block plan)) }
+) -> Result<(), Refusal>
+    ensures { out (number_of result) 0 image.new table.new ≡ left image.old table.old f (taken (take_by image.old shape.last shape.per slot block)) }
 {
-    if !plan.follows {
-        return 10;
+    if !may_follow(shape, block.position) {
+        return Err(Refusal::BadWrite);
     }
-    if plan.fault != 0 {
-        return plan.fault;
-    }
+    let new = free_sector(image, shape)?;
     if block.size == 65535 {
-        return 10;
+        return Err(Refusal::BadWrite);
     }
-    let start = start_after(block.start, plan.new);
+    let start = if block.start == 0 { new } else { block.start };
     let file = Longer {
         former: block.position,
-        new: plan.new,
+        new,
         start,
         size: block.size + 1,
     };
-    take_image(image, per, slot, file);
+    take_image(image, shape, slot, file);
     take_table(table, f, file);
-    0
+    Ok(())
 }
 
-// A sector taken for the file of a slot.
-fn take_for(image: &mut [u8], table: &mut [u8], last: u8, per: u8, f: u16, slot: u32) -> u8
-    ensures { out result 0 image.new table.new ≡ left image.old table.old f (taken (take_for image.old table.old last per f slot)) }
+// A sector taken: every store of it. A refusal stores nothing, in byte 1 neither.
+pub fn take_sector(image: &mut [u8], table: &mut [u8], shape: Shape, f: u16) -> Result<(), Refusal>
+    ensures { out (number_of result) 0 image.new table.new ≡ left image.old table.old f (taken (take_sector image.old table.old shape.last shape.per f)) }
 {
-    let block = block_of(table, f);
-    let plan = plan_of(image, last, per, block);
-    take_by(image, table, per, f, slot, block, plan)
-}
-
-// A sector taken: every store of it. The number of the refusal, or 0; neither is stored.
-pub fn take_sector(image: &mut [u8], table: &mut [u8], last: u8, per: u8, f: u16) -> u8
-    ensures { out result 0 image.new table.new ≡ left image.old table.old f (taken (take_sector image.old table.old last per f)) }
-{
-    let found = slot_of(image, table, last, per, f);
-    match found {
-        Lookup::At(slot) => take_for(image, table, last, per, f, slot),
-        Lookup::Missing => 5,
-        Lookup::Broken => 5,
+    match slot_of(image, table, shape, f) {
+        Ok(slot) => {
+            let block = block_of(table, f);
+            take_by(image, table, shape, f, slot, block)
+        }
+        Err(_) => Err(Refusal::NoDirectory),
     }
 }

@@ -9,12 +9,16 @@ use borrow.Author.Tests.{eq-eqb, ne_eqb}
 use Rattle.rules.specs.Bytes.{byte_at, word_at, part, over, one}
 use Rattle.rules.specs.Stores.{stored, Put, puts, put}
 use Rattle.rules.specs.Image.{index, is_data}
-use Rattle.rules.specs.declared.Lookup.{Lookup}
-use Rattle.rules.specs.declared.Lookup.TheVariants.{At, Missing, Broken}
+use Rattle.std.specs.Prelude.{Result, Ok, Err}
+use Rattle.rules.specs.declared.NoSlot.{NoSlot}
+use Rattle.rules.specs.declared.NoSlot.TheVariants.{Missing, Broken}
+use Rattle.rules.specs.Refusals.{code, number_of}
+use Rattle.rules.specs.declared.refusal.Refusal.{Refusal}
 use Rattle.rules.specs.Outcome.{Outcome, refuse, done, and_then, Out, out, left, settled}
 use Rattle.rules.specs.Block.{index_field, buffer_field, activity_in, position_in, start_in, index_in}
 use Rattle.rules.specs.Transfer.{next_to_read, load_puts, load, reading, slot_in, take_sector, sent, fill, writing, shut, mark, close_writing, close}
 use Rattle.laws.specs.Bytes.{over-append, over-again, length-one, length_part, part_join}
+use Rattle.laws.specs.Refusals.{code-some}
 use Rattle.laws.specs.Stores.{puts-append}
 use Rattle.taking.specs.Take.{taken}
 use Rattle.taking.specs.Promises.{Numbered, numbered, take-numbered}
@@ -32,14 +36,14 @@ module _ (tab : List ℕ) (f : ℕ) {p : ℕ} (e : p ≡ position_in tab f) wher
   next-link h k = rw (← e, ne_eqb p 0 h) k
 
 module _ (img tab : List ℕ) (M S f a : ℕ) where
-  pub load-end : {r : ℕ} {tab' : List ℕ} → a ≡ 0 → r ≡ 8 → tab' ≡ over tab (f + 1) (one 8) → out r 0 img tab' ≡ left img tab f (settled (load img M S a))
+  pub load-end : {r x : Refusal} {tab' : List ℕ} → a ≡ 0 → r ≡ x → tab' ≡ over tab (f + 1) (one (code x)) → code x ≡ 8 → out (code r) 0 img tab' ≡ left img tab f (settled (load img M S a))
   unfolding load
-  load-end h k d = rw (eq-eqb a 0 h, k, d) refl
+  load-end h k d z = rw (eq-eqb a 0 h, k, d, z) refl
 
   module _ {v : Bool} (h : a ≡ 0 → ⊥) (q : v ≡ is_data M S a) where
-    pub load-bad : {r : ℕ} {tab' : List ℕ} → v ≡ false → r ≡ 9 → tab' ≡ over tab (f + 1) (one 9) → out r 0 img tab' ≡ left img tab f (settled (load img M S a))
+    pub load-bad : {r x : Refusal} {tab' : List ℕ} → v ≡ false → r ≡ x → tab' ≡ over tab (f + 1) (one (code x)) → code x ≡ 9 → out (code r) 0 img tab' ≡ left img tab f (settled (load img M S a))
     unfolding load
-    load-bad l k d = rw (ne_eqb a 0 h, ← q, l, k, d) refl
+    load-bad l k d z = rw (ne_eqb a 0 h, ← q, l, k, d, z) refl
 
     pub load-done : {k b : ℕ} {tab' : List ℕ} → v ≡ true → k ≡ index S a → b ≡ byte_at img (256 * k + 4) → tab' ≡ puts tab f (load_puts img a k ++ put 1 (one 0) ∷ [])
         → out 0 b img tab' ≡ left img tab f (settled (load img M S a))
@@ -70,12 +74,15 @@ module _ (img tab : List ℕ) (f : ℕ) (qs : List Put) {r : ℕ} {i t t' : List
   done_first (refuse e) (numbered _ n) k h d = let z : e ≡ 0 = cc in absurd (omega arith)
   done_first (done b ss ps) n k h d = rw (append_assoc ps qs, puts-append ps (qs ++ put 1 (one 0) ∷ [])) cc
 
-module _ (img tab : List ℕ) (M S f b : ℕ) {r : ℕ} {i t t' : List ℕ} (k : out r 0 i t ≡ left img tab f (taken (take_sector img tab M S f))) where
-  pub first-refused : {e : ℕ} → (r ≡ 0 → ⊥) → e ≡ r → t' ≡ over t (f + 1) (one r) → out e 0 i t' ≡ left img tab f (settled (and_then (take_sector img tab M S f) (sent 4 b)))
-  first-refused h e d = rw e (refused-first img tab f (sent 4 b) (take_sector img tab M S f) k h d)
+module _ (img tab : List ℕ) (M S f b : ℕ) {A : Type 0} {r : Result A Refusal} {i t t' : List ℕ} (k : out (number_of r) 0 i t ≡ left img tab f (taken (take_sector img tab M S f))) where
+  pub first-refused : {e x : Refusal} → r ≡ Err e → x ≡ e → t' ≡ over t (f + 1) (one (code e)) → out (code x) 0 i t' ≡ left img tab f (settled (and_then (take_sector img tab M S f) (sent 4 b)))
+  first-refused {e} h q d =
+      let z : code e ≡ 0 → ⊥ = λ n. absurd (omega (arith, code-some e, n)) in
+      rw q (refused-first img tab f (sent 4 b) (take_sector img tab M S f) (sym (ap (λ (x : Result A Refusal). out (number_of x) 0 i t) h) ∙ k) z d)
 
-  pub first_done : r ≡ 0 → t' ≡ puts t f (sent 4 b ++ put 1 (one 0) ∷ []) → out 0 0 i t' ≡ left img tab f (settled (and_then (take_sector img tab M S f) (sent 4 b)))
-  first_done h d = done_first img tab f (sent 4 b) (take_sector img tab M S f) (take-numbered img tab M S f) k h d
+  pub first_done : {u : A} → r ≡ Ok u → t' ≡ puts t f (sent 4 b ++ put 1 (one 0) ∷ []) → out 0 0 i t' ≡ left img tab f (settled (and_then (take_sector img tab M S f) (sent 4 b)))
+  first_done h d =
+      done_first img tab f (sent 4 b) (take_sector img tab M S f) (take-numbered img tab M S f) (sym (ap (λ (x : Result A Refusal). out (number_of x) 0 i t) h) ∙ k) refl d
 
 -- the data of a sector stored, then its last byte over the one that stood in the buffer
 last-again : (m tab : List ℕ) (at from b : ℕ) → over (over m at (part tab from 252)) (at + 251) (one b) ≡ over m at (part tab from 251 ++ one b)
@@ -105,9 +112,9 @@ data-full img tab S f a b {k} {i} p q e =
     ∙ ap (λ (x : ℕ). over img (256 * x + 4) (part tab (f + 68) 251 ++ one b)) e
 
 module _ (img tab : List ℕ) (M S f b : ℕ) {a : ℕ} {v : Bool} (p : a ≡ position_in tab f) (q : v ≡ is_data M S a) where
-  pub fill-bad : {r : ℕ} {t : List ℕ} → v ≡ false → r ≡ 10 → t ≡ over tab (f + 1) (one 10) → out r 0 img t ≡ left img tab f (settled (fill tab M S f b))
+  pub fill-bad : {r x : Refusal} {t : List ℕ} → v ≡ false → r ≡ x → t ≡ over tab (f + 1) (one (code x)) → code x ≡ 10 → out (code r) 0 img t ≡ left img tab f (settled (fill tab M S f b))
   unfolding fill
-  fill-bad h k d = rw (← p, ← q, h, k, d) refl
+  fill-bad h k d z = rw (← p, ← q, h, k, d, z) refl
 
   pub fill_done : {i t : List ℕ} → v ≡ true → i ≡ over img (256 * index S a + 4) (part tab (f + (buffer_field + 4)) 251 ++ one b)
       → t ≡ puts tab f (sent 255 b ++ put 1 (one 0) ∷ []) → out 0 0 i t ≡ left img tab f (settled (fill tab M S f b))
@@ -129,20 +136,18 @@ module _ (img tab : List ℕ) (M S f b : ℕ) {i : ℕ} (e : i ≡ index_in tab 
 
 -- ---- close
 
-module _ (img tab : List ℕ) (M S f : ℕ) {found : Lookup} (e : found ≡ slot_in img tab M S f) where
-  pub empty-at : {i t : List ℕ} {slot : ℕ} → found ≡ At slot → i ≡ stored img (mark slot) → t ≡ puts tab f (shut ++ put 1 (one 0) ∷ [])
+module _ (img tab : List ℕ) (M S f : ℕ) {found : Result ℕ NoSlot} (e : found ≡ slot_in img tab M S f) where
+  pub empty-at : {i t : List ℕ} {slot : ℕ} → found ≡ Ok slot → i ≡ stored img (mark slot) → t ≡ puts tab f (shut ++ put 1 (one 0) ∷ [])
       → out 0 0 i t ≡ left img tab f (settled (close_empty img tab M S f))
   empty-at h k d = rw (← e, h, k, d) refl
 
-  pub empty-missing : {r : ℕ} {t : List ℕ} → found ≡ Missing → r ≡ 5 → t ≡ over tab (f + 1) (one 5) → out r 0 img t ≡ left img tab f (settled (close_empty img tab M S f))
-  empty-missing h k d = rw (← e, h, k, d) refl
-
-  pub empty-broken : {r : ℕ} {t : List ℕ} → found ≡ Broken → r ≡ 5 → t ≡ over tab (f + 1) (one 5) → out r 0 img t ≡ left img tab f (settled (close_empty img tab M S f))
-  empty-broken h k d = rw (← e, h, k, d) refl
+  pub empty-none : {n : NoSlot} {r x : Refusal} {t : List ℕ} → found ≡ Err n → r ≡ x → t ≡ over tab (f + 1) (one (code x)) → code x ≡ 5 → out (code r) 0 img t ≡ left img tab f (settled (close_empty img tab M S f))
+  empty-none {n = Missing} h k d z = rw (← e, h, k, d, z) refl
+  empty-none {n = Broken} h k d z = rw (← e, h, k, d, z) refl
 
 module _ (img tab : List ℕ) (M S f a : ℕ) {v : Bool} (q : v ≡ is_data M S a) where
-  pub partial-bad : {r : ℕ} {t : List ℕ} → v ≡ false → r ≡ 10 → t ≡ over tab (f + 1) (one 10) → out r 0 img t ≡ left img tab f (settled (close_partial tab M S f a))
-  partial-bad h k d = rw (← q, h, k, d) refl
+  pub partial-bad : {r x : Refusal} {t : List ℕ} → v ≡ false → r ≡ x → t ≡ over tab (f + 1) (one (code x)) → code x ≡ 10 → out (code r) 0 img t ≡ left img tab f (settled (close_partial tab M S f a))
+  partial-bad h k d z = rw (← q, h, k, d, z) refl
 
   pub partial-done : {k : ℕ} {i t : List ℕ} → v ≡ true → k ≡ index S a → i ≡ over img (256 * k + 4) (part tab (f + 68) 252)
       → t ≡ puts tab f (shut ++ put 1 (one 0) ∷ []) → out 0 0 i t ≡ left img tab f (settled (close_partial tab M S f a))

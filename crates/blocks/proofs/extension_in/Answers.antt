@@ -1,15 +1,16 @@
-use borrow.Author.Tests.{not-true, not-false}
 use Rattle.blocks.proofs.Laws.{extension-busy, extension-there, extension-no-code, extension-set}
+use Rattle.blocks.proofs.extension_in.Goals.{else-is_idle-via-then-is_idle+else-get-eq0, else-is_idle-via-else-is_idle}
 use Rattle.blocks.proofs.extension_in.Goals as goal
 
-pub returns-then-not-free : goal.returns-then-not-free
-returns-then-not-free c = search (extension-busy, not-true)
+pub returns-in-Some : goal.returns-in-Some
+returns-in-Some c = search extension-set
 
-pub returns-then-first-ne0 : goal.returns-then-first-ne0
-returns-then-first-ne0 c = search (extension-there, not-false)
+pub returns-in_default : goal.returns-in_default
+returns-in_default c = search extension-no-code
 
-pub returns-then-code-ge12 : goal.returns-then-code-ge12
-returns-then-code-ge12 c = search (extension-no-code, not-false)
-
-pub returns : goal.returns
-returns c = search (extension-set, not-false)
+pub returns-else-is_idle : goal.returns-else-is_idle
+returns-else-is_idle c =
+    elim c.else-is_idle.branch [
+      | else-is_idle-via-then-is_idle+else-get-eq0 w ↦ search extension-there
+      | else-is_idle-via-else-is_idle w ↦ search extension-busy
+    ]

@@ -1,7 +1,7 @@
-use mathlib.Core.Path.{refl}
+use Rattle.std.proofs.Common.{rules}
 use Rattle.rules.specs.Block.{extensions}
 use Rattle.blocks.proofs.extension_of.Goals as goal
 
 pub returns : goal.returns
 unfolding extensions
-returns c = refl
+returns c = search rules

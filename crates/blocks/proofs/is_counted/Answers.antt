@@ -1,11 +1,11 @@
 use Rattle.blocks.proofs.Laws.{counts-writer, counts-reader, counts-other}
 use Rattle.blocks.proofs.is_counted.Goals as goal
 
-pub returns-then-activity-eq2 : goal.returns-then-activity-eq2
-returns-then-activity-eq2 c = search counts-writer
+pub returns-in-Writing : goal.returns-in-Writing
+returns-in-Writing c = search counts-writer
 
-pub returns-then-readers : goal.returns-then-readers
-returns-then-readers c = search counts-reader
+pub returns-in-Reading : goal.returns-in-Reading
+returns-in-Reading c = search counts-reader
 
-pub returns : goal.returns
-returns c = search counts-other
+pub returns-in-Closed : goal.returns-in-Closed
+returns-in-Closed c = search counts-other

@@ -1,8 +1,8 @@
-use Rattle.blocks.proofs.Laws.{idle-yes, idle-no}
+use Rattle.blocks.proofs.Laws.{idle-ok, idle-none}
 use Rattle.blocks.proofs.is_idle.Goals as goal
 
-pub returns-in-0 : goal.returns-in-0
-returns-in-0 c = search idle-yes
+pub returns-in-Ok : goal.returns-in-Ok
+returns-in-Ok c = search idle-ok
 
-pub returns-in_default : goal.returns-in_default
-returns-in_default c = search idle-no
+pub returns-in-Err : goal.returns-in-Err
+returns-in-Err c = search idle-none

@@ -1,9 +1,11 @@
-use borrow.Author.Tests.{not-true, not-false}
-use Rattle.blocks.proofs.Laws.{uses-not, uses-same}
+use Rattle.blocks.proofs.Laws.{uses-not, uses-same, uses-none}
 use Rattle.blocks.proofs.is_user.Goals as goal
 
-pub returns-then-not-counted : goal.returns-then-not-counted
-returns-then-not-counted c = search (uses-not, not-true)
+pub returns-then-is_counted : goal.returns-then-is_counted
+returns-then-is_counted c = search uses-same
 
-pub returns : goal.returns
-returns c = search (uses-same, not-false)
+pub returns-else-is_counted : goal.returns-else-is_counted
+returns-else-is_counted c = search uses-not
+
+pub returns-in-Err : goal.returns-in-Err
+returns-in-Err c = search uses-none

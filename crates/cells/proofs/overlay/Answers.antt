@@ -1,15 +1,9 @@
-use mathlib.Core.Path.{refl}
-use native.Mathlib.Omega.{arith}
-use lib.ListN.{length-set}
-use Rattle.cells.proofs.Laws.{laid_more, laid-all}
-use borrow.Author.Rules.{rules}
+use Rattle.std.proofs.Common.{arith}
+use Rattle.cells.proofs.Laws.{laid-more, laid-end}
 use Rattle.cells.proofs.overlay.Goals as goal
 
-pub loop-i-init : goal.loop-i-init
-loop-i-init c = (omega arith, search rules, refl, refl)
-
 pub loop-i-preserved : goal.loop-i-preserved
-loop-i-preserved c = (omega arith, omega arith, simp length-set (omega arith), search laid_more)
+loop-i-preserved g c = laid-more _ _ _ c.loop-i.invariant _ (omega (arith, c.loop-i.auto.dst, c.loop-i-test.true)) (omega (arith, c.requires, c.loop-i-test.true)) c.index-src-i.is
 
 pub returns : goal.returns
-returns c = search laid-all
+returns g c = laid-end _ _ _ c.loop-i.invariant _ c.loop-i.auto.dst c.loop-i-test.false c.loop-i.auto.i-end

@@ -1,11 +1,11 @@
 use Rattle.census.proofs.Laws.{census-wrong, census-shape, census-right}
 use Rattle.census.proofs.census.Goals as goal
 
-pub sized-requires : goal.sized-requires
-sized-requires c = search census-shape
+pub invariant_of-sized : goal.invariant_of-sized
+invariant_of-sized c = record { limits = search census-shape }
 
-pub returns-in-Right : goal.returns-in-Right
-returns-in-Right c = search census-right
+pub returns-in-Some : goal.returns-in-Some
+returns-in-Some c = search census-right
 
-pub returns-in-Wrong : goal.returns-in-Wrong
-returns-in-Wrong c = search census-wrong
+pub returns-in-None : goal.returns-in-None
+returns-in-None c = search census-wrong

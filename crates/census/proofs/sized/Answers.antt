@@ -1,4 +1,5 @@
-use Rattle.census_laws.specs.Whole.{sized-first, sized-second, sized-done, sized-filled}
+use Rattle.census_laws.specs.Whole.{sized-first, sized-second}
+use Rattle.census.proofs.Laws.{sized-ok, sized-refused}
 use Rattle.census.proofs.sized.Goals as goal
 
 pub returns-then-sectors-n : goal.returns-then-sectors-n
@@ -7,8 +8,8 @@ returns-then-sectors-n c = search sized-first
 pub returns-then-owners-n : goal.returns-then-owners-n
 returns-then-owners-n c = search sized-second
 
-pub returns-then-e-eq0 : goal.returns-then-e-eq0
-returns-then-e-eq0 c = search sized-done
+pub returns-in-Ok : goal.returns-in-Ok
+returns-in-Ok c = search sized-ok
 
-pub returns : goal.returns
-returns c = search sized-filled
+pub returns-in-Err : goal.returns-in-Err
+returns-in-Err c = search sized-refused

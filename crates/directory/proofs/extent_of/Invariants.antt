@@ -1,11 +1,11 @@
-use mathlib.Core.Path.{◌≡◌}
-use Prim.Native.Nat.{◌+◌, ◌≤◌}
+use Rattle.std.proofs.Common.{◌≡◌, ◌+◌, ◌≤◌, length}
 use Rattle.directory.specs.Extents.{extent_of}
+use Rattle.directory.specs.Walks.{sectors_left}
 use Rattle.directory.proofs.Laws.{extent_from}
 use Rattle.directory.proofs.extent_of.Given as goal
 
-abbrev pub invariant-loop-left : goal.invariant-loop-left
-invariant-loop-left l = (extent_of l.image l.last l.per ≡ extent_from l.image l.last l.per l.left l.k l.end l.sectors) × (l.sectors + l.left ≤ 65535)
-
-abbrev pub decreases-loop-left : goal.decreases-loop-left
-decreases-loop-left l = l.left
+abbrev pub invariant-loop-k : goal.invariant-loop-k
+invariant-loop-k l =
+    (goal.iterator-loop-k).can_next l.k-iterator × (goal.iterator-loop-k).is_finite l.k-iterator
+    × (extent_of l.image l.fn.shape.last l.fn.shape.per ≡ extent_from (sectors_left l.k-iterator) l.end l.count)
+    × (l.count + length (sectors_left l.k-iterator) ≤ 65535)

@@ -1,11 +1,11 @@
-use Rattle.directory.proofs.Laws.{live-never, live-deleted, live-used}
+use Rattle.laws.specs.Tests.{tests}
+use Rattle.rules.specs.Directory.{live, never_used, deleted}
 use Rattle.directory.proofs.is_live.Goals as goal
 
-pub returns-then-b-eq0 : goal.returns-then-b-eq0
-returns-then-b-eq0 c = search live-never
+pub returns-then-b-ne0 : goal.returns-then-b-ne0
+unfolding live never_used deleted
+returns-then-b-ne0 c = search tests
 
-pub returns-then-b-ge128 : goal.returns-then-b-ge128
-returns-then-b-ge128 c = search live-deleted
-
-pub returns : goal.returns
-returns c = search live-used
+pub returns-else-b-ne0 : goal.returns-else-b-ne0
+unfolding live never_used deleted
+returns-else-b-ne0 c = search tests

@@ -1,20 +1,12 @@
-use Rattle.directory.proofs.Laws.{member-from, member-here, member-end, member-astray, member-to, member-out}
+use Rattle.std.proofs.Common.{◌∙◌, rules, eqb}
+use Rattle.std.proofs.lemmas.Iterator.Search.{any_from_yields_List}
+use Rattle.std.proofs.lemmas.Iterator.Consumers.{YieldsList-from_first}
+use borrow.Author.Tests.{tests}
+use Rattle.directory.specs.Walks.{sectors_left}
+use Rattle.directory.proofs.Laws.{member_any}
 use Rattle.directory.proofs.is_member.Goals as goal
 
-pub loop-left-init : goal.loop-left-init
-loop-left-init c = search member-from
-
-pub returns-then-k-x : goal.returns-then-k-x
-returns-then-k-x c = search member-here
-
-pub returns-in-End : goal.returns-in-End
-returns-in-End c = search member-end
-
-pub returns-in-Astray : goal.returns-in-Astray
-returns-in-Astray c = search member-astray
-
-pub loop-left-preserved : goal.loop-left-preserved
-loop-left-preserved c = search member-to
-
 pub returns : goal.returns
-returns c = search member-out
+returns c =
+    any_from_yields_List (λ k. eqb k c.args.x) c.any.new.self _ c.any.result c.any.ensures.ran (YieldsList-from_first (λ k. k) sectors_left _ c.sectors.ensures.0) (λ k b q d. search (rules, tests))
+    ∙ member_any c.args.x _

@@ -1,4 +1,4 @@
-use borrow.Author.Tests.{not-true, not-false}
+use Rattle.std.proofs.Common.{◌∙◌}
 use Rattle.laws.specs.Slots.{named-dead, named_live}
 use Rattle.directory.proofs.Laws.{named_other}
 use Rattle.directory.proofs.is_named.Goals as goal
@@ -9,8 +9,8 @@ returns-then-get2-end c = search named_other
 pub returns-then-get2-third : goal.returns-then-get2-third
 returns-then-get2-third c = search named_other
 
-pub returns-then-not-alive : goal.returns-then-not-alive
-returns-then-not-alive c = search (named-dead, not-true)
+pub returns-then-is_live : goal.returns-then-is_live
+returns-then-is_live c = search named_live
 
-pub returns : goal.returns
-returns c = search (named_live, not-false)
+pub returns-else-is_live : goal.returns-else-is_live
+returns-else-is_live c = c.if-is_live.false ∙ search named-dead

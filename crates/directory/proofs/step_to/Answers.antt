@@ -1,17 +1,15 @@
 use Rattle.laws.specs.Tests.{tests}
-use borrow.Author.Tests.{not-true, not-false}
 use Rattle.rules.specs.Directory.{step_to}
-use Rattle.directory.proofs.Laws.{step-astray, step-on}
 use Rattle.directory.proofs.step_to.Goals as goal
 
 pub returns-then-a-eq0 : goal.returns-then-a-eq0
 unfolding step_to
 returns-then-a-eq0 c = search tests
 
-pub returns-then-not-allowed : goal.returns-then-not-allowed
+pub returns-then-not-is_directory : goal.returns-then-not-is_directory
 unfolding step_to
-returns-then-not-allowed c = search (step-astray, not-true)
+returns-then-not-is_directory c = search tests
 
 pub returns : goal.returns
 unfolding step_to
-returns c = search (step-on, not-false)
+returns c = search tests

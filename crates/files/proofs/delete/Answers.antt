@@ -1,21 +1,20 @@
 use Rattle.rules.specs.Files.{delete}
 use Rattle.files.specs.Parts.{delete_at}
 use Rattle.laws.specs.Settled.{unless-refused, unless-on, slot-on, slot-missing, slot-broken}
-use borrow.Author.Tests.{not-true, not-false}
 use Rattle.files.proofs.delete.Goals as goal
 
-pub returns-then-not-legal : goal.returns-then-not-legal
+pub returns-then-not-legal_name : goal.returns-then-not-legal_name
 unfolding delete delete_at
-returns-then-not-legal c = search (unless-refused, not-true)
+returns-then-not-legal_name c = search unless-refused
 
-pub returns-in-At : goal.returns-in-At
+pub returns-in-Ok : goal.returns-in-Ok
 unfolding delete delete_at
-returns-in-At c = search (unless-on, slot-on, not-false)
+returns-in-Ok c = search (unless-on, slot-on)
 
-pub returns-in-Missing : goal.returns-in-Missing
+pub returns-in-Err-Missing : goal.returns-in-Err-Missing
 unfolding delete delete_at
-returns-in-Missing c = search (unless-on, slot-missing, not-false)
+returns-in-Err-Missing c = search (unless-on, slot-missing)
 
-pub returns-in-Broken : goal.returns-in-Broken
+pub returns-in-Err-Broken : goal.returns-in-Err-Broken
 unfolding delete delete_at
-returns-in-Broken c = search (unless-on, slot-broken, not-false)
+returns-in-Err-Broken c = search (unless-on, slot-broken)

@@ -1,8 +1,8 @@
 use Rattle.files.proofs.Laws.{grow-refused, grow-done}
 use Rattle.files.proofs.grow.Goals as goal
 
-pub returns-then-fault-ne0 : goal.returns-then-fault-ne0
-returns-then-fault-ne0 c = search grow-refused
+pub returns-in-Ok : goal.returns-in-Ok
+returns-in-Ok c = search grow-done
 
-pub returns : goal.returns
-returns c = search grow-done
+pub returns-in-Err : goal.returns-in-Err
+returns-in-Err c = search grow-refused

@@ -3,13 +3,13 @@ use Rattle.laws.specs.Settled.{when-refused, when-on}
 use Rattle.files.proofs.Laws.{read_opened}
 use Rattle.files.proofs.open_read_at.Goals as goal
 
-pub returns-then-secret : goal.returns-then-secret
+pub returns-then-is_protected : goal.returns-then-is_protected
 unfolding open_read_at
-returns-then-secret c = search when-refused
+returns-then-is_protected c = search when-refused
 
-pub returns-then-used : goal.returns-then-used
+pub returns-then-in_use : goal.returns-then-in_use
 unfolding open_read_at
-returns-then-used c = search (when-on, when-refused)
+returns-then-in_use c = search (when-on, when-refused)
 
 pub returns : goal.returns
 unfolding open_read_at

@@ -1,21 +1,20 @@
 use Rattle.rules.specs.Files.{open_write}
 use Rattle.files.specs.Parts.{open_write_new, open_write_at}
 use Rattle.laws.specs.Settled.{unless-refused, unless-on, none-on, none-there, none-broken}
-use borrow.Author.Tests.{not-true, not-false}
 use Rattle.files.proofs.open_write.Goals as goal
 
-pub returns-then-not-legal : goal.returns-then-not-legal
+pub returns-then-not-legal_name : goal.returns-then-not-legal_name
 unfolding open_write open_write_at open_write_new
-returns-then-not-legal c = search (unless-refused, not-true)
+returns-then-not-legal_name c = search unless-refused
 
-pub returns-in-At : goal.returns-in-At
+pub returns-in-Ok : goal.returns-in-Ok
 unfolding open_write open_write_at open_write_new
-returns-in-At c = search (unless-on, none-there, not-false)
+returns-in-Ok c = search (unless-on, none-there)
 
-pub returns-in-Missing : goal.returns-in-Missing
+pub returns-in-Err-Missing : goal.returns-in-Err-Missing
 unfolding open_write open_write_at open_write_new
-returns-in-Missing c = search (unless-on, none-on, not-false)
+returns-in-Err-Missing c = search (unless-on, none-on)
 
-pub returns-in-Broken : goal.returns-in-Broken
+pub returns-in-Err-Broken : goal.returns-in-Err-Broken
 unfolding open_write open_write_at open_write_new
-returns-in-Broken c = search (unless-on, none-broken, not-false)
+returns-in-Err-Broken c = search (unless-on, none-broken)

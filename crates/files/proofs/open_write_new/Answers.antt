@@ -2,14 +2,14 @@ use Rattle.files.specs.Parts.{open_write_new}
 use Rattle.files.proofs.Laws.{else-slot, else-other, else-broken}
 use Rattle.files.proofs.open_write_new.Goals as goal
 
-pub returns-in-At : goal.returns-in-At
+pub returns-in-Ok : goal.returns-in-Ok
 unfolding open_write_new
-returns-in-At c = search else-slot
+returns-in-Ok c = search else-slot
 
-pub returns-in-Missing : goal.returns-in-Missing
+pub returns-in-Err-Missing : goal.returns-in-Err-Missing
 unfolding open_write_new
-returns-in-Missing c = search else-other
+returns-in-Err-Missing c = search else-other
 
-pub returns-in-Broken : goal.returns-in-Broken
+pub returns-in-Err-Broken : goal.returns-in-Err-Broken
 unfolding open_write_new
-returns-in-Broken c = search else-broken
+returns-in-Err-Broken c = search else-broken

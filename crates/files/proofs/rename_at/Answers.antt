@@ -2,22 +2,22 @@ use Rattle.files.specs.Parts.{rename_at}
 use Rattle.laws.specs.Settled.{when-refused, when-on, none-there, none-on, none-broken}
 use Rattle.files.proofs.rename_at.Goals as goal
 
-pub returns-then-busy : goal.returns-then-busy
+pub returns-then-in_use : goal.returns-then-in_use
 unfolding rename_at
-returns-then-busy c = search when-refused
+returns-then-in_use c = search when-refused
 
-pub returns-then-fixed : goal.returns-then-fixed
+pub returns-then-is_protected : goal.returns-then-is_protected
 unfolding rename_at
-returns-then-fixed c = search (when-on, when-refused)
+returns-then-is_protected c = search (when-on, when-refused)
 
-pub returns-in-At : goal.returns-in-At
+pub returns-in-Ok : goal.returns-in-Ok
 unfolding rename_at
-returns-in-At c = search (when-on, none-there)
+returns-in-Ok c = search (when-on, none-there)
 
-pub returns-in-Missing : goal.returns-in-Missing
+pub returns-in-Err-Missing : goal.returns-in-Err-Missing
 unfolding rename_at
-returns-in-Missing c = search (when-on, none-on)
+returns-in-Err-Missing c = search (when-on, none-on)
 
-pub returns-in-Broken : goal.returns-in-Broken
+pub returns-in-Err-Broken : goal.returns-in-Err-Broken
 unfolding rename_at
-returns-in-Broken c = search (when-on, none-broken)
+returns-in-Err-Broken c = search (when-on, none-broken)

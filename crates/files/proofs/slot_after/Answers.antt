@@ -2,14 +2,14 @@ use Rattle.files.specs.Parts.{slot_after}
 use Rattle.laws.specs.Settled.{slot-on, slot-missing, slot-broken}
 use Rattle.files.proofs.slot_after.Goals as goal
 
-pub returns-in-At : goal.returns-in-At
+pub returns-in-Ok : goal.returns-in-Ok
 unfolding slot_after
-returns-in-At c = search slot-on
+returns-in-Ok c = search slot-on
 
-pub returns-in-Missing : goal.returns-in-Missing
+pub returns-in-Err-Missing : goal.returns-in-Err-Missing
 unfolding slot_after
-returns-in-Missing c = search slot-missing
+returns-in-Err-Missing c = search slot-missing
 
-pub returns-in-Broken : goal.returns-in-Broken
+pub returns-in-Err-Broken : goal.returns-in-Err-Broken
 unfolding slot_after
-returns-in-Broken c = search slot-broken
+returns-in-Err-Broken c = search slot-broken

@@ -1,14 +1,8 @@
-use Rattle.fms.proofs.Layers.{shape-unknown, shape-drive, shape-unfit, shape-fit}
+use Rattle.fms.proofs.Layers.{shape-passed, shape-refused}
 use Rattle.fms.proofs.on_shape.Goals as goal
 
-pub returns-then-not-known : goal.returns-then-not-known
-returns-then-not-known c = search shape-unknown
+pub returns-in-Ok : goal.returns-in-Ok
+returns-in-Ok c = search shape-passed
 
-pub returns-then-drive-ne0 : goal.returns-then-drive-ne0
-returns-then-drive-ne0 c = search shape-drive
-
-pub returns-then-not-fit : goal.returns-then-not-fit
-returns-then-not-fit c = search shape-unfit
-
-pub returns : goal.returns
-returns c = search shape-fit
+pub returns-in-Err : goal.returns-in-Err
+returns-in-Err c = search shape-refused

@@ -1,11 +1,11 @@
 use Rattle.names.proofs.Laws.{byte-letter, byte-digit, byte-sign, byte-other}
 use Rattle.names.proofs.is_name_byte.Goals as goal
 
-pub returns-then-letter : goal.returns-then-letter
-returns-then-letter c = search byte-letter
+pub returns-then-is_letter : goal.returns-then-is_letter
+returns-then-is_letter c = search byte-letter
 
-pub returns-then-digit : goal.returns-then-digit
-returns-then-digit c = search byte-digit
+pub returns-then-is_digit : goal.returns-then-is_digit
+returns-then-is_digit c = search byte-digit
 
 pub returns-in-45 : goal.returns-in-45
 returns-in-45 c = search byte-sign

@@ -1,12 +1,14 @@
-use borrow.Author.Tests.{not-true, not-false}
-use Rattle.names.proofs.Laws.{word_none, word-no, word_on}
+use Rattle.std.proofs.Common.{refl}
+use Rattle.names.proofs.Laws.{word-none, word-no, word_on}
 use Rattle.names.proofs.is_word.Goals as goal
 
-pub returns-then-n-eq0 : goal.returns-then-n-eq0
-returns-then-n-eq0 c = search word_none
+pub returns-in-empty : goal.returns-in-empty
+returns-in-empty c = word-none _ c.in-empty.len_below
 
-pub returns-then-not-letter : goal.returns-then-not-letter
-returns-then-not-letter c = search (word-no, not-true)
+pub returns-then-is_letter : goal.returns-then-is_letter
+returns-then-is_letter c =
+    word_on _ c.in-len1-up.len_at_least c.is_letter.ensures c.if-is_letter.true _ refl c.goes_on.ensures
 
-pub returns : goal.returns
-returns c = search (word_on, not-false)
+pub returns-else-is_letter : goal.returns-else-is_letter
+returns-else-is_letter c =
+    word-no _ c.in-len1-up.len_at_least c.is_letter.ensures c.if-is_letter.false

@@ -1,9 +1,9 @@
-use borrow.Author.Tests.{not-true, not-false}
+use Rattle.std.proofs.Common.{refl}
 use Rattle.names.proofs.Laws.{legal-no, legal-on}
 use Rattle.names.proofs.legal_name.Goals as goal
 
-pub returns-then-not-name : goal.returns-then-not-name
-returns-then-not-name c = search (legal-no, not-true)
+pub returns-then-is_word : goal.returns-then-is_word
+returns-then-is_word c = legal-on _ _ _ _ c.copy.ensures refl c.is_word.ensures c.if-is_word.true c.is_word-then-is_word.ensures
 
-pub returns : goal.returns
-returns c = search (legal-on, not-false)
+pub returns-else-is_word : goal.returns-else-is_word
+returns-else-is_word c = legal-no _ _ _ _ c.copy.ensures refl c.is_word.ensures c.if-is_word.false

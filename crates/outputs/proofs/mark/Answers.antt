@@ -1,20 +1,17 @@
-use mathlib.Core.Path.{refl}
-use native.Mathlib.Omega.{arith}
-use lib.ListN.{length-set}
+use Rattle.std.proofs.Common.{arith, length-set}
 use Rattle.census_laws.specs.Marks.{mark-large, mark-twice, mark_on, mark-end}
+use Rattle.outputs.proofs.mark.Goals.{then-x-marks-via-then-x-marks, then-x-marks-via-else-x-marks+then-marks-x-ne0}
 use Rattle.outputs.proofs.mark.Goals as goal
 
-pub loop-i-init : goal.loop-i-init
-loop-i-init c = (refl, omega arith, refl)
-
 pub returns-then-x-marks : goal.returns-then-x-marks
-returns-then-x-marks c = search mark-large
+returns-then-x-marks c =
+    elim c.then-x-marks.branch [
+      | then-x-marks-via-then-x-marks w ↦ search mark-large
+      | then-x-marks-via-else-x-marks+then-marks-x-ne0 w ↦ search mark-twice
+    ]
 
-pub returns-then-marks-x-ne0 : goal.returns-then-marks-x-ne0
-returns-then-marks-x-ne0 c = search mark-twice
-
-pub loop-i-preserved : goal.loop-i-preserved
-loop-i-preserved c = (search mark_on, omega arith, simp length-set (omega arith))
+pub loop-number-preserved : goal.loop-number-preserved
+loop-number-preserved c = (search mark_on, simp length-set (omega arith))
 
 pub returns : goal.returns
 returns c = search mark-end

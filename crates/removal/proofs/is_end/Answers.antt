@@ -6,6 +6,6 @@ pub returns-then-free-eq0 : goal.returns-then-free-eq0
 unfolding is_end
 returns-then-free-eq0 c = search tests
 
-pub returns : goal.returns
+pub returns-else-free-eq0 : goal.returns-else-free-eq0
 unfolding is_end
-returns c = search tests
+returns-else-free-eq0 c = search tests

@@ -1,18 +1,30 @@
-use borrow.Author.Tests.{not-true, not-false}
-use Rattle.removal.proofs.Laws.{start-bad, end-bad, tail-bad, sum-bad, all-good}
+use Rattle.removal.specs.Hanging.{may_hang}
+use Rattle.laws.specs.Tests.{tests}
+use Rattle.removal.proofs.Laws.{small}
+use Rattle.removal.proofs.may_hang.Goals.{then-is_data, else-is_data, then-is_data-2, else-is_data-2}
 use Rattle.removal.proofs.may_hang.Goals as goal
 
-pub returns-then-not-start : goal.returns-then-not-start
-returns-then-not-start c = search (start-bad, not-true)
+pub returns-then-is_end : goal.returns-then-is_end
+unfolding may_hang
+returns-then-is_end c =
+    elim c.if-is_data-2.branch [
+      | then-is_data-2 w ↦ elim c.if-is_data.branch [
+        | then-is_data u ↦ search (tests, small)
+        | else-is_data u ↦ search tests
+      ]
+      | else-is_data-2 w ↦ search tests
+    ]
 
-pub returns-then-not-end : goal.returns-then-not-end
-returns-then-not-end c = search (end-bad, not-true, not-false)
-
-pub returns-then-not-tail : goal.returns-then-not-tail
-returns-then-not-tail c = search (tail-bad, not-true, not-false)
-
-pub returns-then-free-entry-gt65535 : goal.returns-then-free-entry-gt65535
-returns-then-free-entry-gt65535 c = search (sum-bad, not-false)
-
-pub returns : goal.returns
-returns c = search (all-good, not-false)
+pub returns-else-is_end : goal.returns-else-is_end
+unfolding may_hang
+returns-else-is_end c =
+    elim c.if-is_data-2.branch [
+      | then-is_data-2 w ↦ elim c.if-is_data.branch [
+        | then-is_data u ↦ search tests
+        | else-is_data u ↦ search tests
+      ]
+      | else-is_data-2 w ↦ elim c.if-is_data.branch [
+        | then-is_data u ↦ search tests
+        | else-is_data u ↦ search tests
+      ]
+    ]

@@ -1,9 +1,8 @@
-use borrow.Author.Tests.{not-true, not-false}
 use Rattle.repair.proofs.Laws.{file-dead, file-live}
 use Rattle.repair.proofs.mend_file.Goals as goal
 
-pub returns-then-not-alive : goal.returns-then-not-alive
-returns-then-not-alive c = search (file-dead, not-true)
+pub returns-then-not-is_live : goal.returns-then-not-is_live
+returns-then-not-is_live c = search file-dead
 
 pub returns : goal.returns
-returns c = search (file-live, not-false)
+returns c = search file-live

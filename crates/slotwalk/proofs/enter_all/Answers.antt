@@ -1,25 +1,17 @@
-use mathlib.Core.Path.{refl}
-use Rattle.census_laws.specs.Table.{table_kept}
-use Rattle.slotwalk.proofs.Laws.{enters-first, enters_none, enters-twice, enters-unknown, enters-next, enters-last, enters-broken}
+use Rattle.std.proofs.Common.{rules}
+use Rattle.std.proofs.lemmas.Result.{err_from_is_err_and}
+use Rattle.census_laws.specs.Table.{entering}
+use Rattle.slotwalk.proofs.Laws.{enters-clash, enters-next}
 use Rattle.slotwalk.proofs.enter_all.Goals as goal
 
-pub loop-left-init : goal.loop-left-init
-loop-left-init c = (search enters-first, refl)
+pub returns-in_err-enter : goal.returns-in_err-enter
+returns-in_err-enter c =
+    let p = err_from_is_err_and c.from_residual.result c.from_residual.ensures.1 in
+    rw (p.1, p.2) (search (enters-clash, c.in_err-enter.was, c.in-Some.ensures.steps))
 
-pub returns-in-Twice : goal.returns-in-Twice
-returns-in-Twice c = search enters-twice
-
-pub returns-in-Unknown : goal.returns-in-Unknown
-returns-in-Unknown c = search enters-unknown
-
-pub returns-in-Missing : goal.returns-in-Missing
-returns-in-Missing c = search enters-last
-
-pub returns-in-Broken : goal.returns-in-Broken
-returns-in-Broken c = search enters-broken
-
-pub loop-left-preserved : goal.loop-left-preserved
-loop-left-preserved c = (search enters-next, search table_kept)
+pub loop-slot-preserved : goal.loop-slot-preserved
+loop-slot-preserved c = search (rules, enters-next, c.in_ok-enter.was, c.in-Some.ensures.steps)
 
 pub returns : goal.returns
-returns c = search enters_none
+unfolding entering
+returns c = search rules

@@ -1,9 +1,8 @@
-use borrow.Author.Tests.{not-true, not-false}
 use Rattle.slotwalk.proofs.Laws.{if-dead, if-live}
 use Rattle.slotwalk.proofs.held.Goals as goal
 
-pub returns-then-not-alive : goal.returns-then-not-alive
-returns-then-not-alive c = search (if-dead, not-true)
+pub returns-then-is_live : goal.returns-then-is_live
+returns-then-is_live c = search if-live
 
-pub returns : goal.returns
-returns c = search (if-live, not-false)
+pub returns-else-is_live : goal.returns-else-is_live
+returns-else-is_live c = search if-dead

@@ -1,9 +1,9 @@
-use borrow.Author.Tests.{not-true, not-false}
+use Rattle.std.proofs.Common.{◌∙◌}
 use Rattle.laws.specs.Slots.{named-dead, named_live}
 use Rattle.slotwalk.proofs.is_namesake.Goals as goal
 
-pub returns-then-not-alive : goal.returns-then-not-alive
-returns-then-not-alive c = search (named-dead, not-true)
+pub returns-then-is_live : goal.returns-then-is_live
+returns-then-is_live c = search named_live
 
-pub returns : goal.returns
-returns c = search (named_live, not-false)
+pub returns-else-is_live : goal.returns-else-is_live
+returns-else-is_live c = c.if-is_live.false ∙ search named-dead

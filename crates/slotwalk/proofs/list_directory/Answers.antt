@@ -1,19 +1,12 @@
-use mathlib.Core.Path.{refl}
+use Rattle.std.proofs.Common.{rules}
 use native.Mathlib.Omega.{arith}
-use Rattle.census_laws.specs.Walks.{sectors-first, sectors-end, sectors-next, sectors-last, sectors-astray, sector-many, sector-kept}
+use Rattle.census_laws.specs.Walks.{sectors}
+use Rattle.slotwalk.proofs.Laws.{listed-next, listed-many}
 use Rattle.slotwalk.proofs.list_directory.Goals as goal
 
-pub loop-left-init : goal.loop-left-init
-loop-left-init c = (search sectors-first, omega arith, refl)
-
-pub returns-in-End : goal.returns-in-End
-returns-in-End c = search sectors-last
-
-pub returns-in-Astray : goal.returns-in-Astray
-returns-in-Astray c = search sectors-astray
-
-pub loop-left-preserved : goal.loop-left-preserved
-loop-left-preserved c = (search sectors-next, search (sector-many, arith), search sector-kept)
+pub loop-k-preserved : goal.loop-k-preserved
+loop-k-preserved c = (tt, tt, search (listed-next, c.in-Some.ensures.steps), search (listed-many, arith, c.in-Some.ensures.steps))
 
 pub returns : goal.returns
-returns c = search sectors-end
+unfolding sectors
+returns c = search rules

@@ -1,12 +1,11 @@
-use borrow.Author.Tests.{not-true, not-false}
 use Rattle.census_laws.specs.Walks.{file}
 use Rattle.slotwalk.proofs.Laws.{if-dead, if-live}
 use Rattle.slotwalk.proofs.list_file.Goals as goal
 
-pub returns-then-not-alive : goal.returns-then-not-alive
+pub returns-then-not-is_live : goal.returns-then-not-is_live
 unfolding file
-returns-then-not-alive c = search (if-dead, not-true)
+returns-then-not-is_live c = search if-dead
 
 pub returns : goal.returns
 unfolding file
-returns c = search (if-live, not-false)
+returns c = search if-live

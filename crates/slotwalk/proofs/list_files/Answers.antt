@@ -1,25 +1,18 @@
-use mathlib.Core.Path.{refl}
+use Rattle.std.proofs.Common.{rules}
 use native.Mathlib.Omega.{arith}
-use Rattle.slotwalk.proofs.Laws.{files-first, files-none, files-wrong, files-next, files-last, files-broken, files-place, files-fit, files-kept}
+use Rattle.census_laws.specs.Walks.{files}
+use Rattle.slotwalk.proofs.Laws.{files-wrong, files-next, files-place, files-fit}
 use Rattle.slotwalk.proofs.list_files.Goals as goal
 
-pub loop-left-init : goal.loop-left-init
-loop-left-init c = (search files-first, omega arith, refl)
-
 pub overflow_add-n : goal.overflow_add-n
-overflow_add-n c = search (files-fit, arith)
+overflow_add-n c = search (files-fit, c.in_ok-n.was, c.in-Some.ensures.steps, arith)
 
-pub returns-in-Wrong : goal.returns-in-Wrong
-returns-in-Wrong c = search files-wrong
+pub returns-in_err-n : goal.returns-in_err-n
+returns-in_err-n c = rw c.from_residual.ensures (search (files-wrong, c.in_err-n.was, c.in-Some.ensures.steps))
 
-pub returns-in-Missing : goal.returns-in-Missing
-returns-in-Missing c = search files-last
-
-pub returns-in-Broken : goal.returns-in-Broken
-returns-in-Broken c = search files-broken
-
-pub loop-left-preserved : goal.loop-left-preserved
-loop-left-preserved c = (search files-next, search (files-place, arith), search files-kept)
+pub loop-slot-preserved : goal.loop-slot-preserved
+loop-slot-preserved c = (tt, tt, search (files-next, c.in_ok-n.was, c.in-Some.ensures.steps), search (files-place, c.in_ok-n.was, c.in-Some.ensures.steps, arith))
 
 pub returns : goal.returns
-returns c = search files-none
+unfolding files
+returns c = search rules

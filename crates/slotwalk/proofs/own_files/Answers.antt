@@ -1,20 +1,10 @@
-use mathlib.Core.Path.{refl}
+use Rattle.std.proofs.Common.{ap, length}
 use native.Mathlib.Omega.{arith}
-use Rattle.census_laws.specs.Stored.{over-kept}
-use Rattle.slotwalk.proofs.Laws.{own_first, own-none, own-next, own-last, own-broken}
+use Rattle.slotwalk.proofs.Laws.{own-none, own-next}
 use Rattle.slotwalk.proofs.own_files.Goals as goal
 
-pub loop-left-init : goal.loop-left-init
-loop-left-init c = (search own_first, omega arith, refl)
-
-pub returns-in-Missing : goal.returns-in-Missing
-returns-in-Missing c = search own-last
-
-pub returns-in-Broken : goal.returns-in-Broken
-returns-in-Broken c = search own-broken
-
-pub loop-left-preserved : goal.loop-left-preserved
-loop-left-preserved c = (search own-next, omega arith, search over-kept)
+pub loop-slot-preserved : goal.loop-slot-preserved
+loop-slot-preserved c = (tt, tt, search (own-next, c.in-Some.ensures.steps), omega (arith, ap length c.in-Some.ensures.steps))
 
 pub returns : goal.returns
-returns c = search own-none
+returns c = search (own-none, c.in-None.ensures.steps.0)

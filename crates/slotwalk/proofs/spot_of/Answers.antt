@@ -1,17 +1,17 @@
-use Rattle.census_laws.specs.Table.{spot-first, probe-none, probe-free, probe-taken, probe-on}
+use Rattle.slotwalk.proofs.Laws.{spot-begins, probed_all, probed-free, probed-taken, probed-on}
 use Rattle.slotwalk.proofs.spot_of.Goals as goal
 
-pub loop-left-init : goal.loop-left-init
-loop-left-init c = search spot-first
+pub loop-init : goal.loop-init
+loop-init c = search spot-begins
 
 pub returns-then-e-eq0 : goal.returns-then-e-eq0
-returns-then-e-eq0 c = search probe-free
+returns-then-e-eq0 c = search probed-free
 
-pub returns-then-own : goal.returns-then-own
-returns-then-own c = search probe-taken
+pub returns-then-is_own : goal.returns-then-is_own
+returns-then-is_own c = search probed-taken
 
-pub loop-left-preserved : goal.loop-left-preserved
-loop-left-preserved c = search probe-on
+pub loop-preserved : goal.loop-preserved
+loop-preserved c = search probed-on
 
 pub returns : goal.returns
-returns c = search probe-none
+returns c = search probed_all

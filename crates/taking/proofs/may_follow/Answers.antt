@@ -1,8 +1,11 @@
-use Rattle.taking.proofs.Laws.{follows-none, follows-data}
+use Rattle.laws.specs.Tests.{tests}
+use Rattle.taking.specs.Take.{follows}
 use Rattle.taking.proofs.may_follow.Goals as goal
 
 pub returns-then-position-eq0 : goal.returns-then-position-eq0
-returns-then-position-eq0 c = search follows-none
+unfolding follows
+returns-then-position-eq0 c = search tests
 
-pub returns : goal.returns
-returns c = search follows-data
+pub returns-else-position-eq0 : goal.returns-else-position-eq0
+unfolding follows
+returns-else-position-eq0 c = search tests

@@ -4,8 +4,8 @@ use Rattle.transfer.proofs.close_writing.Goals as goal
 pub returns-then-a-eq0 : goal.returns-then-a-eq0
 returns-then-a-eq0 c = search closes-empty
 
-pub returns-then-filled-ne0 : goal.returns-then-filled-ne0
-returns-then-filled-ne0 c = search closes-partial
+pub returns-then-get-ne0 : goal.returns-then-get-ne0
+returns-then-get-ne0 c = search closes-partial
 
 pub returns : goal.returns
 returns c = search closes-full

@@ -1,8 +1,8 @@
 use Rattle.transfer.proofs.Laws.{first-refused, first_done}
 use Rattle.transfer.proofs.write_first.Goals as goal
 
-pub returns-then-e-eq0 : goal.returns-then-e-eq0
-returns-then-e-eq0 c = search first_done
+pub returns-in-Ok : goal.returns-in-Ok
+returns-in-Ok c = search first_done
 
-pub returns : goal.returns
-returns c = search first-refused
+pub returns-in-Err : goal.returns-in-Err
+returns-in-Err c = search first-refused

@@ -1,5 +1,0 @@
-use Rattle.removal.proofs.Laws.{marked}
-use Rattle.removal.proofs.mark.Goals as goal
-
-pub returns : goal.returns
-returns c = search marked
