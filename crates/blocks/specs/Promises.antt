@@ -2,6 +2,7 @@
 use Rattle.std.specs.Prelude.{◌≡◌, refl, Bool, List, [], ℕ, ◌+◌, Result, Ok, Err, eqb}
 use Rattle.std.proofs.Math.Path.{sym, ap, ◌∙◌}
 use Rattle.rules.specs.Bytes.{pick, over, one}
+use Rattle.rules.specs.Refusals.{code}
 use Rattle.rules.specs.Outcome.{left}
 use Rattle.rules.specs.Directory.{place_of}
 use Rattle.rules.specs.Block.{block_at, idle, in_use, preset, extension}
@@ -9,7 +10,7 @@ use Rattle.rules.specs.declared.refusal.Refusal.{Refusal}
 use Rattle.blocks.specs.declared.activity.Activity.{Activity}
 use Rattle.blocks.specs.declared.activity.Activity.TheVariants.{Closed, Reading, Writing, Directory}
 use Rattle.blocks.specs.Activities.{activity_byte, Decodes}
-use Rattle.laws.specs.Single.{Single, single, SingleOut, single-out}
+use Rattle.laws.specs.Single.{Single, single, SingleDone, single-done}
 
 pub in-use-single : (readers : Bool) (tab : List ℕ) (S slot : ℕ) → Single (in_use readers tab (place_of S slot))
 in-use-single readers tab S slot = single (in_use readers tab (place_of S slot))
@@ -17,11 +18,14 @@ in-use-single readers tab S slot = single (in_use readers tab (place_of S slot))
 pub refuse-single : (tab : List ℕ) (f e : ℕ) → Single e × Single (over tab (f + 1) (one e))
 refuse-single tab f e = (single e, single (over tab (f + 1) (one e)))
 
-pub preset-single : (tab : List ℕ) (n i v : ℕ) → SingleOut (left [] tab (block_at n) (preset tab n i v))
-preset-single tab n i v = single-out (left [] tab (block_at n) (preset tab n i v))
+pub refuse-with-single : (tab : List ℕ) (f : ℕ) (e : Refusal) → Single e × Single (over tab (f + 1) (one (code e)))
+refuse-with-single tab f e = (single e, single (over tab (f + 1) (one (code e))))
 
-pub default-extension-single : (tab : List ℕ) (n code : ℕ) → SingleOut (left [] tab (block_at n) (extension tab n code))
-default-extension-single tab n code = single-out (left [] tab (block_at n) (extension tab n code))
+pub preset-single : (tab : List ℕ) (n i v : ℕ) → SingleDone (left [] tab (block_at n) (preset tab n i v))
+preset-single tab n i v = single-done (left [] tab (block_at n) (preset tab n i v))
+
+pub default-extension-single : (tab : List ℕ) (n code : ℕ) → SingleDone (left [] tab (block_at n) (extension tab n code))
+default-extension-single tab n code = single-done (left [] tab (block_at n) (extension tab n code))
 
 -- no two activities have one byte
 activity_of : ℕ → Activity

@@ -74,8 +74,8 @@ pub fn in_use(readers: bool, table: &[u8], shape: Shape, slot: u32) -> bool
     false
 }
 
-// A number given back; it is all that is stored, in byte 1 of the block that begins at f.
-pub fn store_error(table: &mut [u8], f: u16, number: u8) -> u8
+// A refusal by its number: the number is the answer, and all that is stored, in byte 1 of the block that begins at f.
+pub fn refuse(table: &mut [u8], f: u16, number: u8) -> u8
     ensures { (result ≡ number) × (table.new ≡ over table.old (f + 1) (one number)) }
 {
     put(table, f as usize + ERROR, number);
@@ -83,10 +83,10 @@ pub fn store_error(table: &mut [u8], f: u16, number: u8) -> u8
 }
 
 // A refusal handed on, its number stored.
-pub fn refuse(table: &mut [u8], f: u16, e: Refusal) -> Refusal
+pub fn refuse_with(table: &mut [u8], f: u16, e: Refusal) -> Refusal
     ensures { (result ≡ e) × (table.new ≡ over table.old (f + 1) (one (code e))) }
 {
-    store_error(table, f, e.number());
+    refuse(table, f, e.number());
     e
 }
 

@@ -64,9 +64,10 @@ fn name_bytes(text: &[u8]) -> [u8; 11] {
 impl Lent<'_> {
     // The eleven bytes of a name preset from an offset on.
     pub(crate) fn name(&mut self, rt: &impl Print, line: Line<'_>, offset: u8) -> io::Result<()> {
+        let fcb = line.number(0);
         let mut answer = 0;
         for (i, byte) in name_bytes(line.text()).iter().enumerate() {
-            let preset = blocks::preset(self.table, line.number(0), offset as usize + i, *byte);
+            let preset = blocks::preset(self.table, fcb, offset as usize + i, *byte);
             answer = number(preset);
         }
         print!(rt; " -> {answer}")

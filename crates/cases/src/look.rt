@@ -7,7 +7,8 @@ use std::{fmt, io, iter};
 // The numbers of a line from an index on, at most 64, put as bytes from a place on.
 fn put_all(s: &mut [u8], from: usize, line: Line<'_>, index: usize) {
     let numbers = line.numbers().skip(index).take(64);
-    for (byte, n) in s.iter_mut().skip(from).zip(numbers) {
+    let from = from.min(s.len()); // a part, for `skip` steps through what it passes over
+    for (byte, n) in s[from..].iter_mut().zip(numbers) {
         *byte = (n & 0xff) as u8;
     }
 }
@@ -16,7 +17,8 @@ fn put_all(s: &mut [u8], from: usize, line: Line<'_>, index: usize) {
 fn show(rt: &impl Print, s: &[u8], from: usize, n: usize) -> io::Result<()> {
     print!(rt; " ->")?;
     let mut run = Run::default();
-    for byte in s.iter().copied().skip(from).chain(iter::repeat(0)).take(n) {
+    let part = &s[from.min(s.len())..];
+    for byte in part.iter().copied().chain(iter::repeat(0)).take(n) {
         run.push(rt, byte)?;
     }
     run.end(rt)

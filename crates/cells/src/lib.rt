@@ -45,6 +45,9 @@ pub fn fill<T: Copy>(s: &mut [T], v: T)
 pub fn run<T: Copy>(dst: &mut [T], at: usize, n: usize, v: T)
     ensures { dst.new ≡ over dst.old at (replicate n v) }
 {
+    if n == 0 {
+        return; // no part is made: most of the directory's slots have no file, and the census asks for each
+    }
     if at < dst.len() {
         let n = n.min(dst.len() - at);
         fill(&mut dst[at..at + n], v);

@@ -1,12 +1,16 @@
 -- What an accepted census says: M-as-S numbers, each data sector's once, and beside each its owner: 0, 65,534 for the directory, or the number
 -- of a live slot. And that no second outcome fits the census.
-use Rattle.std.specs.Prelude.{◌≡◌, refl, ◌⊎◌, Bool, true, false, List, [], ◌∷◌, ℕ, zero, suc, ◌+◌, ◌<◌, length, get_or, replicate}
+use Rattle.std.specs.Prelude.{◌≡◌, refl, ◌⊎◌, Bool, true, false, List, [], ◌∷◌, ℕ, zero, suc, ◌+◌, ◌<◌, length, get_or, replicate, Result}
+use Prim.{Unit}
 use Rattle.std.proofs.Common.{sym, inl, inr, arith}
 use Rattle.rules.specs.Bytes.{pick}
+use Rattle.rules.specs.Refusals.{number_of}
+use Rattle.rules.specs.declared.refusal.Refusal.{Refusal}
 use Rattle.rules.specs.Image.{last_track, per_track, free_count}
 use Rattle.rules.specs.Directory.{directory, slots, live, size_at}
 use Rattle.rules.specs.Census.{file_owners, files_owners, directory_numbers, directory_owner, listed, owners, tally, Survey, survey, census}
 use Rattle.laws.specs.Each.{Each, each_append, each-so, each_at}
+use Rattle.laws.specs.Refusals.{done-inj}
 use Rattle.laws.specs.Counting.{once_is}
 use Rattle.laws.specs.Surveys.{data_sectors, length-owners, census-is}
 use Rattle.laws.proofs.Surveys.{length-listed, listed_below}
@@ -83,3 +87,18 @@ SingleSurvey s = (e e' : ℕ) (xs xs' ys ys' : List ℕ) → survey e xs ys ≡ 
 
 pub single-survey : (s : Survey) → SingleSurvey s
 single-survey s e e' xs xs' ys ys' p q = (cc, cc, cc)
+
+-- and no second result
+abbrev pub SingleSurveyed : Survey → Type 0
+SingleSurveyed s =
+    SingleSurvey s
+    × ((x y : Result (Unit {0}) Refusal) (xs xs' ys ys' : List ℕ) → survey (number_of x) xs ys ≡ s → survey (number_of y) xs' ys' ≡ s
+    → (x ≡ y) × (xs ≡ xs') × (ys ≡ ys'))
+
+pub single-surveyed : (s : Survey) → SingleSurveyed s
+single-surveyed s = (
+  single-survey s,
+  λ x y xs xs' ys ys' p q.
+      let t = single-survey s (number_of x) (number_of y) xs xs' ys ys' p q in
+      (done-inj x y t.0, t.1, t.2),
+)

@@ -14,7 +14,7 @@ use Rattle.rules.specs.Bytes.{pick, ◌and◌, ◌or◌, within, word_at, part, 
 use Rattle.rules.specs.Image.{track_of, sector_of, index, address_of, is_data, link_of}
 use Rattle.rules.specs.Stores.{stored}
 use Rattle.rules.specs.Transfer.{mark}
-use Rattle.rules.specs.Directory.{is_directory, step_to, next_of, on_next, most_of_directory, ends, directory_right, sectors_from, directory, last_of, slots, live, scan, named, member, placed, in_directory}
+use Rattle.rules.specs.Directory.{is_directory, step_to, next_of, on_next, most_of_directory, ends, directory_right, sectors_from, directory, last_of, first_slot_of, slots, live, scan, named, member, placed, in_directory}
 use Rattle.rules.specs.declared.Next.{Next}
 use Rattle.rules.specs.declared.Next.TheVariants.{End, To, Astray}
 use Rattle.std.specs.Prelude.{Result, Ok, Err, Option, Some, None, ⊤}
@@ -25,15 +25,15 @@ use Rattle.std.specs.Iterator.{MakesProgress, YieldsFirst, Drains, item_count}
 use Rattle.std.proofs.Common.{rules}
 use Rattle.rules.specs.declared.NoSlot.{NoSlot}
 use Rattle.rules.specs.declared.NoSlot.TheVariants.{Missing, Broken}
-use Rattle.laws.specs.Tests.{never}
+use Rattle.laws.specs.Tests.{never, clash}
 use Rattle.laws.specs.Bytes.{part_at, same-eq}
 use Rattle.laws.specs.Slots.{is_displacement, placed_at, placed-only, placed-none}
 use Rattle.laws.specs.Walk.{sectors-more, slot-begins}
-use Rattle.laws.specs.Visits.{step_slot, visits, pass-next, pass-end}
+use Rattle.laws.specs.Visits.{step_slot, visits, on_there, visits-next, visits-none, visits_few, slots-visits, most_slots}
 use Rattle.directory.specs.declared.Extent.{Extent}
 use Rattle.directory.specs.Extents.{extent_of}
 use Rattle.directory.specs.declared.SectorWalk.{SectorWalk}
-use Rattle.directory.specs.Walks.{sectors_left}
+use Rattle.directory.specs.Walks.{sectors_left, room, slots_from}
 
 pub product : (x y : ℕ) → x ≤ 255 → y ≤ 255 → x * y ≤ 65025
 product x y h k = mul-le-mul h k
@@ -61,13 +61,68 @@ next-by img M S k e q = q ∙ ap (step_to M S) e
 -- ---- the walk
 
 -- what a turn takes of the slots left
-module _ (img : List ℕ) (M S n o : ℕ) (h : n ≡ 0 → ⊥) {r : Result ℕ NoSlot} (e : r ≡ step_slot img M S o) where
-  pub slots-to : {p : ℕ} → r ≡ Ok p → visits img M S n o ≡ o ∷ visits img M S (n - 1) p
-  slots-to q = pass-next (λ (l : List ℕ). l) img M S n o refl (omega (arith, h)) e q
+module _ (img : List ℕ) (M S n o : ℕ) where
+  pub slots-none : o ≡ 0 → slots_from img M S n o ≡ []
+  slots-none h = rw (eq-eqb o 0 h) refl
 
-  pub slots-end : {x : NoSlot} → r ≡ Err x → visits img M S n o ≡ o ∷ visits img M S 0 o
-  unfolding visits
-  slots-end q = pass-end (λ (l : List ℕ). l) img M S n o refl (omega (arith, h)) e q
+  there : (p m : ℕ) → (p ≡ 0 → ⊥) → m ≡ room p + 10 * n → visits img M S m p ≡ slots_from img M S n p
+  there p m h e = rw (e, ne_eqb p 0 h) refl
+
+  -- the next of its sector
+  pub slots-next : {p : ℕ} → (o ≡ 0 → ⊥) → o % 256 < 232 → p ≡ o + 24 → slots_from img M S n o ≡ o ∷ slots_from img M S n p
+  slots-next {p} h k e =
+      let q : room o + 10 * n ≡ suc (room p + 10 * n) = omega (arith, k, e) in
+      rw (ne_eqb o 0 h, q) (visits-next img M S 0 0 (room p + 10 * n) o k ∙ ap (λ (l : List ℕ). o ∷ l) (rw (← e) (there p (room p + 10 * n) (omega (arith, e)) refl)))
+
+  module _ (h : o ≡ 0 → ⊥) (k : 232 ≤ o % 256) where
+    -- the last of its sector
+    last-is : slots_from img M S n o ≡ o ∷ on_there (step_slot img M S o) [] (λ p. visits img M S (10 * n) p)
+    unfolding visits
+    last-is =
+        let q : room o + 10 * n ≡ suc (10 * n) = omega (arith, k) in
+        rw (ne_eqb o 0 h, q) refl
+
+    pub slots-last : n ≡ 0 → slots_from img M S n o ≡ o ∷ slots_from img M S n 0
+    unfolding visits
+    slots-last e = last-is ∙ rw e (go (step_slot img M S o))
+      where
+        go : (r : Result ℕ NoSlot) → ◌≡◌ {A = List ℕ} (o ∷ on_there r [] (λ p. visits img M S 0 p)) (o ∷ [])
+        go (Ok p) = refl
+        go (Err Missing) = refl
+        go (Err Broken) = refl
+
+    module _ {r : Result ℕ NoSlot} (d : r ≡ step_slot img M S o) where
+      first-there : {p : ℕ} → r ≡ Ok p → p % 256 ≡ 16
+      unfolding step_slot
+      first-there {p} q =
+          let u : ◌≡◌ {A = Result ℕ NoSlot} (Ok p) (pick (ltb (o % 256) 232) (Ok (o + 24)) (on_next (next_of img M S (o / 256)) (Err Missing) (Err Broken) (λ j. Ok (first_slot_of j)))) = sym q ∙ d in
+          go (next_of img M S (o / 256)) (rw (le-ltb (o % 256) 232 k) at u)
+        where
+          go : (t : Next) → ◌≡◌ {A = Result ℕ NoSlot} (Ok p) (on_next t (Err Missing) (Err Broken) (λ j. Ok (first_slot_of j))) → p % 256 ≡ 16
+          go End e = clash (cc)
+          go Astray e = clash (cc)
+          go (To j) e = let z : p ≡ 256 * j + 16 = cc in omega (arith, z)
+
+      pub slots-to : {p : ℕ} → (n ≡ 0 → ⊥) → r ≡ Ok p → slots_from img M S n o ≡ o ∷ slots_from img M S (n - 1) p
+      slots-to {p} z q =
+          let f = first-there q in
+          let m : 10 * n ≡ room p + 10 * (n - 1) = omega (arith, z, f) in
+          last-is ∙ rw (← d, q, ne_eqb p 0 (omega (arith, f)), m) refl
+
+      pub slots-end : {x : NoSlot} → r ≡ Err x → slots_from img M S n o ≡ o ∷ slots_from img M S n 0
+      slots-end {x = Missing} q = last-is ∙ rw (← d, q) refl
+      slots-end {x = Broken} q = last-is ∙ rw (← d, q) refl
+
+-- where all are left, of m sectors
+module _ (img : List ℕ) (M S m : ℕ) (e : m ≡ most_of_directory M S) where
+  pub all-slots : {left : ℕ} → m ≤ 65535 → 1 ≤ m → left ≡ m - 1 → (slots_from img M S left 1040 ≡ slots img M S) × (length (slots_from img M S left 1040) ≤ 655350)
+  all-slots {left} f h d =
+      let q : 10 + 10 * left ≡ most_slots M S = omega (arith, e, h, d) in
+      let l = visits_few img M S (10 + 10 * left) 1040 in
+      (ap (λ (n : ℕ). visits img M S n 1040) q ∙ sym (slots-visits img M S), omega (arith, l, f, h, d))
+
+  pub no-slots : (1 ≤ m → ⊥) → ([] ≡ slots img M S) × (0 ≤ 655350)
+  no-slots h = (sym (slots-visits img M S ∙ visits-none img M S (most_slots M S) 1040 (omega (arith, e, h))), omega arith)
 
 -- of the sectors
 module _ (img : List ℕ) (M S n k : ℕ) {a : Next} (e : a ≡ next_of img M S k) where

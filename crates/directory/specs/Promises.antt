@@ -1,12 +1,18 @@
 -- No second outcome fits the promise of a public function of this crate.
-use Rattle.std.specs.Prelude.{List, ◌++◌, ℕ}
+use Rattle.std.specs.Prelude.{◌≡◌, refl, List, [], ◌∷◌, ◌++◌, ℕ, Option, Some, None}
+use Rattle.std.specs.Iterator.{YieldsFirst}
+use Rattle.std.proofs.Common.{sym, ◌∙◌}
 use Rattle.rules.specs.Bytes.{part, over, one, two, same}
 use Rattle.rules.specs.Stores.{stored}
 use Rattle.rules.specs.Transfer.{mark}
 use Rattle.rules.specs.Directory.{next_of, most_of_directory, directory_right, directory, slots, live, find, vacancy, placed, place_of}
+use Rattle.laws.specs.Tests.{clash}
 use Rattle.laws.specs.Single.{Single, single}
 use Rattle.laws.specs.Visits.{step_slot, most_slots}
 use Rattle.directory.specs.Extents.{extent_of}
+use Rattle.directory.specs.Walks.{sectors_left, slots_left}
+use Rattle.directory.specs.declared.SectorWalk.{SectorWalk}
+use Rattle.directory.specs.declared.SlotWalk.{SlotWalk}
 
 pub next-of-single : (img : List ℕ) (M S k : ℕ) → Single (next_of img M S k)
 next-of-single img M S k = single (next_of img M S k)
@@ -22,6 +28,23 @@ sectors-single img M S = single (directory img M S)
 
 pub slots-single : (img : List ℕ) (M S : ℕ) → Single (slots img M S)
 slots-single img M S = single (slots img M S)
+
+-- what an iterator gives, and what it has left then, by what it had left
+left-single : {A S : Type 0} (rest : S → List A) (s t t' : S) (x y : Option A) → YieldsFirst rest s x t → YieldsFirst rest s y t' → (x ≡ y) × (rest t ≡ rest t')
+left-single rest s t t' (Some a) (Some b) h k = (cc, cc)
+left-single rest s t t' (Some a) None h k =
+    let z : a ∷ rest t ≡ [] = sym h ∙ k.0 in
+    clash (cc)
+left-single rest s t t' None (Some b) h k =
+    let z : b ∷ rest t' ≡ [] = sym k ∙ h.0 in
+    clash (cc)
+left-single rest s t t' None None h k = (refl, h.1 ∙ sym k.1)
+
+pub next-sector-single : (s t t' : SectorWalk) (x y : Option ℕ) → YieldsFirst sectors_left s x t → YieldsFirst sectors_left s y t' → (x ≡ y) × (sectors_left t ≡ sectors_left t')
+next-sector-single s t t' x y h k = left-single sectors_left s t t' x y h k
+
+pub next-slot-single : (s t t' : SlotWalk) (x y : Option ℕ) → YieldsFirst slots_left s x t → YieldsFirst slots_left s y t' → (x ≡ y) × (slots_left t ≡ slots_left t')
+next-slot-single s t t' x y h k = left-single slots_left s t t' x y h k
 
 pub directory-right-single : (img : List ℕ) (M S : ℕ) → Single (directory_right img M S)
 directory-right-single img M S = single (directory_right img M S)

@@ -145,13 +145,15 @@ pub fn extent_of(image: &[u8], shape: Shape) -> Extent
     }
 }
 
-// The directory's slots in order: those from one on, so many at most. A copy goes over the same slots. It is not one type with
-// `SectorWalk`: the items have two widths and the steps two results, and the bounds that one type would need are more than what is shared.
+// The directory's slots in order: those from one on to the end of its sector, and those of so many sectors behind it at most. Where none is
+// left it stands at 0, which is no slot. A copy goes over the same slots. It is not one type with `SectorWalk`: the items have two widths and
+// the steps two results, and the bounds that one type would need are more than what is shared. It counts sectors and not slots: with a count
+// of slots a pass over slots that hold nothing takes 1.6 times the instructions, and a census of 1x36 misses its aim.
 #[derive(Clone, Copy)]
 pub struct SlotWalk<'a> {
     image: &'a [u8],
     shape: Shape,
-    left: u32,
+    left: u16,
     here: u32,
 }
 
@@ -163,16 +165,24 @@ impl<'a> Iterator for SlotWalk<'a> {
     ghost remaining = { item_count slots_left };
 
     fn next(&mut self) -> Option<u32> {
-        if self.left == 0 {
+        let slot = self.here;
+        if slot == 0 {
             return None;
         }
-        let slot = self.here;
+        if slot % 256 < 232 {
+            self.here = slot + SLOT_LENGTH as u32;
+            return Some(slot);
+        }
+        if self.left == 0 {
+            self.here = 0;
+            return Some(slot);
+        }
         match step_slot(self.image, self.shape, slot) {
             Ok(behind) => {
                 self.here = behind;
                 self.left -= 1;
             }
-            Err(_) => self.left = 0,
+            Err(_) => self.here = 0,
         }
         Some(slot)
     }
@@ -182,11 +192,19 @@ impl<'a> Iterator for SlotWalk<'a> {
 pub fn slots(image: &[u8], shape: Shape) -> SlotWalk
     ensures { (slots_left result ≡ slots image.now shape.last shape.per) × (length (slots_left result) ≤ 655350) }
 {
-    SlotWalk {
-        image,
-        shape,
-        left: most_slots(shape),
-        here: FIRST_SLOT,
+    match most_of(shape).checked_sub(1) {
+        Some(left) => SlotWalk {
+            image,
+            shape,
+            left,
+            here: FIRST_SLOT,
+        },
+        None => SlotWalk {
+            image,
+            shape,
+            left: 0,
+            here: 0,
+        },
     }
 }
 

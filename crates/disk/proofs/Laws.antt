@@ -107,9 +107,14 @@ pub fresh-stored : (m d bs : List ℕ) (at size : ℕ) → bs ≡ size / 256 % 2
 unfolding fresh zeros
 fresh-stored m d bs at size e h = h ∙ rw e refl
 
-pub link-set : (img : List ℕ) (k a : ℕ) {d : List ℕ} → d ≡ over img (256 * k) (two a) → d ≡ stored img (linked false k a)
-unfolding linked
-link-set img k a e = e ∙ ap (λ (n : ℕ). over img n (two a)) (omega arith)
+module _ (img : List ℕ) (none : Bool) (k a : ℕ) where
+  pub link-none : none ≡ true → img ≡ stored img (linked none k a)
+  unfolding linked
+  link-none h = rw h refl
+
+  pub link-some : {d : List ℕ} → none ≡ false → d ≡ over img (256 * k) (two a) → d ≡ stored img (linked none k a)
+  unfolding linked
+  link-some h e = rw h (e ∙ ap (λ (n : ℕ). over img n (two a)) (omega arith))
 
 -- the n bytes from i on of the sector whose 256 bytes begin at o
 bytes-stored : (m d tab : List ℕ) (o i n from : ℕ) → o + 256 ≤ length m → i + n ≤ 256 → d ≡ over (mid_of o (o + 256 - o) m) i (part tab from n)

@@ -2,4 +2,3 @@
 pub mod Loaded
 pub mod Shapes
 pub mod Promises
-pub mod Links

@@ -1,7 +1,7 @@
 // The image as a diskette: its shape, the addresses of sectors, the information record, sectors loaded and stored. All are total.
 #![tactic(auto)]
 
-ghost use Rattle.std.specs.Prelude.{false, ◌≡◌, [], ◌∷◌, ◌+◌, ◌*◌, ◌≤◌};
+ghost use Rattle.std.specs.Prelude.{◌≡◌, [], ◌∷◌, ◌+◌, ◌*◌, ◌≤◌};
 ghost use Rattle.rules.specs.Bytes.{part, over, six};
 ghost use Rattle.rules.specs.Stores.{store, stored};
 ghost use Rattle.rules.specs.Image.{within_limits, index, address_of, is_sector, is_data, link_of, info_sector, info_first};
@@ -138,10 +138,14 @@ pub fn link_of(image: &[u8], k: u16) -> u16
     get2(image, 256 * k as usize)
 }
 
-// The link of the sector with the index k set to an address.
-pub fn link(image: &mut [u8], k: u16, a: u16)
-    ensures { image.new ≡ stored image.old (linked false k a) }
+// The link of the sector with the index k set to an address, unless there is no such sector. The test stands here and not with each
+// caller, for docs/PROMISES.md names this function as the one that stores no link where there is none.
+pub fn link(image: &mut [u8], none: bool, k: u16, a: u16)
+    ensures { image.new ≡ stored image.old (linked none k a) }
 {
+    if none {
+        return;
+    }
     put2(image, 256 * k as usize, a);
 }
 

@@ -13,7 +13,7 @@ ghost use Rattle.rules.specs.Files.{open_read, grow, open_write, rewind, open_di
 ghost use Rattle.blocks.specs.Activities.{activity_byte};
 ghost use Rattle.files.specs.Parts.{opening, open_read_at, open_write_at, add_stores, growth, open_write_new, first_slot, slot_after, further_slot, delete_at, renamed, rename_at};
 
-use blocks::{Activity, in_use, refuse};
+use blocks::{Activity, in_use, refuse_with};
 use cells::{clear, copy, get, get2, put, put2, store};
 use directory::{directory_right, extent_of, find, most_of, put_place, step_slot, vacancy};
 use disk::{Shape, link, load_sector};
@@ -52,10 +52,10 @@ fn open_read_at(
     ensures { out (number_of result) 0 image.now table.new ≡ left image.now table.old f (settled (open_read_at image.now table.old shape.per slot)) }
 {
     if is_protected(image, slot, Protection::Read) {
-        return Err(refuse(table, f, Refusal::ReadProtected));
+        return Err(refuse_with(table, f, Refusal::ReadProtected));
     }
     if in_use(false, table, shape, slot) {
-        return Err(refuse(table, f, Refusal::InUse)); // it is being written
+        return Err(refuse_with(table, f, Refusal::InUse)); // it is being written
     }
     copy(table, f as usize + NAME, image, slot as usize, SLOT_LENGTH);
     open_block(table, shape, f, Activity::Reading, slot);
@@ -67,12 +67,12 @@ pub fn open_read(image: &[u8], table: &mut [u8], shape: Shape, f: u16) -> Result
     ensures { out (number_of result) 0 image.now table.new ≡ left image.now table.old f (settled (open_read image.now table.old shape.last shape.per f)) }
 {
     if !legal_name(table, f as usize + NAME) {
-        return Err(refuse(table, f, Refusal::BadName));
+        return Err(refuse_with(table, f, Refusal::BadName));
     }
     match find(image, shape, table, f as usize + NAME) {
         Ok(slot) => open_read_at(image, table, shape, f, slot),
-        Err(NoSlot::Missing) => Err(refuse(table, f, Refusal::NotFound)),
-        Err(NoSlot::Broken) => Err(refuse(table, f, Refusal::NoDirectory)),
+        Err(NoSlot::Missing) => Err(refuse_with(table, f, Refusal::NotFound)),
+        Err(NoSlot::Broken) => Err(refuse_with(table, f, Refusal::NoDirectory)),
     }
 }
 
@@ -94,7 +94,7 @@ fn add_sector(image: &mut [u8], shape: Shape, end: u16, new: u16)
     let k = shape.index_of(new);
     take_off(image, shape);
     clear(image, 256 * k as usize, 256);
-    link(image, end, new);
+    link(image, false, end, new);
 }
 
 // The free sector by which a directory of so many sectors grows, or why it does not.
@@ -121,7 +121,7 @@ fn grow(image: &mut [u8], table: &mut [u8], shape: Shape, f: u16) -> Result<(), 
             open_write_at(image, table, shape, f, 256 * k as u32 + 16);
             Ok(())
         }
-        Err(e) => Err(refuse(table, f, e)),
+        Err(e) => Err(refuse_with(table, f, e)),
     }
 }
 
@@ -135,7 +135,7 @@ fn open_write_new(image: &mut [u8], table: &mut [u8], shape: Shape, f: u16) -> R
             Ok(())
         }
         Err(NoSlot::Missing) => grow(image, table, shape, f),
-        Err(NoSlot::Broken) => Err(refuse(table, f, Refusal::NoDirectory)),
+        Err(NoSlot::Broken) => Err(refuse_with(table, f, Refusal::NoDirectory)),
     }
 }
 
@@ -144,12 +144,12 @@ pub fn open_write(image: &mut [u8], table: &mut [u8], shape: Shape, f: u16) -> R
     ensures { out (number_of result) 0 image.new table.new ≡ left image.old table.old f (settled (open_write image.old table.old shape.last shape.per f)) }
 {
     if !legal_name(table, f as usize + NAME) {
-        return Err(refuse(table, f, Refusal::BadName));
+        return Err(refuse_with(table, f, Refusal::BadName));
     }
     match find(image, shape, table, f as usize + NAME) {
-        Ok(_) => Err(refuse(table, f, Refusal::Exists)),
+        Ok(_) => Err(refuse_with(table, f, Refusal::Exists)),
         Err(NoSlot::Missing) => open_write_new(image, table, shape, f),
-        Err(NoSlot::Broken) => Err(refuse(table, f, Refusal::NoDirectory)),
+        Err(NoSlot::Broken) => Err(refuse_with(table, f, Refusal::NoDirectory)),
     }
 }
 
@@ -194,7 +194,7 @@ fn first_slot(image: &[u8], table: &mut [u8], shape: Shape, f: u16) -> Result<()
     ensures { out (number_of result) 0 image.now table.new ≡ left image.now table.old f (settled (first_slot image.now shape.last shape.per)) }
 {
     if !directory_right(image, shape) {
-        return Err(refuse(table, f, Refusal::NoDirectory));
+        return Err(refuse_with(table, f, Refusal::NoDirectory));
     }
     show(image, table, shape, f, FIRST_SLOT);
     Ok(())
@@ -215,8 +215,8 @@ fn slot_after(
             show(image, table, shape, f, after);
             Ok(())
         }
-        Err(NoSlot::Missing) => Err(refuse(table, f, Refusal::AtEnd)),
-        Err(NoSlot::Broken) => Err(refuse(table, f, Refusal::NoDirectory)),
+        Err(NoSlot::Missing) => Err(refuse_with(table, f, Refusal::AtEnd)),
+        Err(NoSlot::Broken) => Err(refuse_with(table, f, Refusal::NoDirectory)),
     }
 }
 
@@ -226,7 +226,7 @@ fn further_slot(image: &[u8], table: &mut [u8], shape: Shape, f: u16) -> Result<
 {
     match slot_of(image, table, shape, f) {
         Ok(slot) => slot_after(image, table, shape, f, slot),
-        Err(_) => Err(refuse(table, f, Refusal::NoDirectory)),
+        Err(_) => Err(refuse_with(table, f, Refusal::NoDirectory)),
     }
 }
 
@@ -246,7 +246,7 @@ pub fn read_sector(image: &[u8], table: &mut [u8], shape: Shape, f: u16) -> Resu
 {
     let a = get2(table, f as usize + POSITION);
     if !shape.is_sector(a) {
-        return Err(refuse(table, f, Refusal::BadRead));
+        return Err(refuse_with(table, f, Refusal::BadRead));
     }
     load_sector(table, f as usize + BUFFER, image, shape.index_of(a));
     put(table, f as usize + ERROR, 0);
@@ -265,13 +265,13 @@ fn delete_at(
 {
     let open = in_use(true, table, shape, slot);
     if open {
-        return Err(refuse(table, f, Refusal::InUse));
+        return Err(refuse_with(table, f, Refusal::InUse));
     }
     if is_protected(image, slot, Protection::Delete) {
-        return Err(refuse(table, f, Refusal::DeleteProtected));
+        return Err(refuse_with(table, f, Refusal::DeleteProtected));
     }
     if is_protected(image, slot, Protection::Write) {
-        return Err(refuse(table, f, Refusal::WriteProtected));
+        return Err(refuse_with(table, f, Refusal::WriteProtected));
     }
     remove(image, table, shape, f, slot)
 }
@@ -281,12 +281,12 @@ pub fn delete(image: &mut [u8], table: &mut [u8], shape: Shape, f: u16) -> Resul
     ensures { out (number_of result) 0 image.new table.new ≡ left image.old table.old f (settled (delete image.old table.old shape.last shape.per f)) }
 {
     if !legal_name(table, f as usize + NAME) {
-        return Err(refuse(table, f, Refusal::BadName));
+        return Err(refuse_with(table, f, Refusal::BadName));
     }
     match find(image, shape, table, f as usize + NAME) {
         Ok(slot) => delete_at(image, table, shape, f, slot),
-        Err(NoSlot::Missing) => Err(refuse(table, f, Refusal::NotFound)),
-        Err(NoSlot::Broken) => Err(refuse(table, f, Refusal::NoDirectory)),
+        Err(NoSlot::Missing) => Err(refuse_with(table, f, Refusal::NotFound)),
+        Err(NoSlot::Broken) => Err(refuse_with(table, f, Refusal::NoDirectory)),
     }
 }
 
@@ -311,18 +311,18 @@ fn rename_at(
     ensures { out (number_of result) 0 image.new table.new ≡ left image.old table.old f (settled (rename_at image.old table.old shape.last shape.per f slot)) }
 {
     if in_use(true, table, shape, slot) {
-        return Err(refuse(table, f, Refusal::InUse));
+        return Err(refuse_with(table, f, Refusal::InUse));
     }
     if is_protected(image, slot, Protection::Write) {
-        return Err(refuse(table, f, Refusal::WriteProtected));
+        return Err(refuse_with(table, f, Refusal::WriteProtected));
     }
     match find(image, shape, table, f as usize + NEW_NAME) {
-        Ok(_) => Err(refuse(table, f, Refusal::Exists)), // its own name too
+        Ok(_) => Err(refuse_with(table, f, Refusal::Exists)), // its own name too
         Err(NoSlot::Missing) => {
             store_name(image, table, f, slot);
             Ok(())
         }
-        Err(NoSlot::Broken) => Err(refuse(table, f, Refusal::NoDirectory)),
+        Err(NoSlot::Broken) => Err(refuse_with(table, f, Refusal::NoDirectory)),
     }
 }
 
@@ -331,14 +331,14 @@ pub fn rename(image: &mut [u8], table: &mut [u8], shape: Shape, f: u16) -> Resul
     ensures { out (number_of result) 0 image.new table.new ≡ left image.old table.old f (settled (rename image.old table.old shape.last shape.per f)) }
 {
     if !legal_name(table, f as usize + NAME) {
-        return Err(refuse(table, f, Refusal::BadName));
+        return Err(refuse_with(table, f, Refusal::BadName));
     }
     if !legal_name(table, f as usize + NEW_NAME) {
-        return Err(refuse(table, f, Refusal::BadName));
+        return Err(refuse_with(table, f, Refusal::BadName));
     }
     match find(image, shape, table, f as usize + NAME) {
         Ok(slot) => rename_at(image, table, shape, f, slot),
-        Err(NoSlot::Missing) => Err(refuse(table, f, Refusal::NotFound)),
-        Err(NoSlot::Broken) => Err(refuse(table, f, Refusal::NoDirectory)),
+        Err(NoSlot::Missing) => Err(refuse_with(table, f, Refusal::NotFound)),
+        Err(NoSlot::Broken) => Err(refuse_with(table, f, Refusal::NoDirectory)),
     }
 }

@@ -27,21 +27,6 @@ unserved c h0 h1 h2 h4 h5 h6 h7 h8 h9 h10 h12 h13 = go (served c) refl
         either (within 0 2 c) _ e (λ k. absurd (omega (arith, within-is 0 2 c k)))
         (λ k. either (within 4 10 c) (within 12 13 c) k (λ m. absurd (omega (arith, within-is 4 10 c m))) (λ m. absurd (omega (arith, within-is 12 13 c m))))
 
-pub is-served : (g : Function) {c : ℕ} → function_byte g ≡ c → served c ≡ true
-unfolding served within
-is-served Transfer e = rw (← e) refl
-is-served OpenRead e = rw (← e) refl
-is-served OpenWrite e = rw (← e) refl
-is-served Close e = rw (← e) refl
-is-served Rewind e = rw (← e) refl
-is-served OpenDirectory e = rw (← e) refl
-is-served NextSlot e = rw (← e) refl
-is-served PutSlot e = rw (← e) refl
-is-served ReadSector e = rw (← e) refl
-is-served WriteSector e = rw (← e) refl
-is-served Delete e = rw (← e) refl
-is-served Rename e = rw (← e) refl
-
 -- ---- the activities that a function takes
 
 module _ (g : Function) (act : ℕ) {r : Bool} where

@@ -22,9 +22,8 @@ use Rattle.disk.specs.Loaded.{shape_of}
 use Rattle.disk.specs.Shapes.{some_is, none-is}
 use Rattle.laws.specs.Refusals.{code-some}
 use Rattle.fms.specs.declared.function.Function.{Function}
-use Rattle.fms.specs.Functions.{function_byte, code-is, no-function, Decodes}
+use Rattle.fms.specs.Functions.{function_byte, code-is, no-function, Decodes, is-served}
 use Rattle.fms.specs.Steps.{fault, Checked, on_shape}
-use Rattle.fms.proofs.Activities.{is-served}
 
 -- a refusal leaves the image as it is, whatever it holds
 told : (img tab tab' : List ℕ) (f x y e : ℕ) → out x y [] tab' ≡ left [] tab f (settled (refuse e)) → out x y img tab' ≡ left img tab f (settled (refuse e))

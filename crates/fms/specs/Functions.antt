@@ -1,5 +1,6 @@
 -- 01, "Function codes served at first", and 02's: the functions by their codes.
-use Rattle.std.specs.Prelude.{◌≡◌, false, ℕ, Result, Ok, Err, MatchResult}
+use Rattle.std.specs.Prelude.{◌≡◌, refl, true, false, ℕ, Result, Ok, Err, MatchResult}
+use Rattle.rules.specs.Bytes.{within}
 use Rattle.rules.specs.Call.{served}
 use Rattle.rules.specs.declared.refusal.Refusal.{Refusal}
 use Rattle.rules.specs.declared.refusal.Refusal.TheVariants.{NotServed}
@@ -34,3 +35,19 @@ code-is code {r = Err e} d h = clash (cc)
 pub no-function : (code : ℕ) {r : Result Function Refusal} {e : Refusal} → Decodes code r → r ≡ Err e → (e ≡ NotServed) × (served code ≡ false)
 no-function code {r = Ok x} d h = clash (cc)
 no-function code {r = Err x} d h = (let u : x ≡ NotServed = d.0 in cc, d.1)
+
+-- each is served
+pub is-served : (g : Function) {c : ℕ} → function_byte g ≡ c → served c ≡ true
+unfolding served within
+is-served Transfer e = rw (← e) refl
+is-served OpenRead e = rw (← e) refl
+is-served OpenWrite e = rw (← e) refl
+is-served Close e = rw (← e) refl
+is-served Rewind e = rw (← e) refl
+is-served OpenDirectory e = rw (← e) refl
+is-served NextSlot e = rw (← e) refl
+is-served PutSlot e = rw (← e) refl
+is-served ReadSector e = rw (← e) refl
+is-served WriteSector e = rw (← e) refl
+is-served Delete e = rw (← e) refl
+is-served Rename e = rw (← e) refl

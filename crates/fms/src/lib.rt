@@ -11,7 +11,7 @@ ghost use Rattle.rules.specs.Call.{call, asked, perform};
 ghost use Rattle.fms.specs.Functions.{function_byte};
 ghost use Rattle.fms.specs.Steps.{Checked, on_shape};
 
-use blocks::{Activity, refuse};
+use blocks::{Activity, refuse_with};
 use cells::get_in;
 use disk::{Shape, shape_of};
 use files::{
@@ -29,7 +29,7 @@ mod function;
 fn refused(table: &mut [u8], f: u16, e: Refusal) -> Result<u8, Refusal>
     ensures { out (number_of result) (byte_of result) [] table.new ≡ left [] table.old f (settled (refuse (code e))) }
 {
-    Err(refuse(table, f, e))
+    Err(refuse_with(table, f, e))
 }
 
 // The answer of a function that returns no byte.

@@ -1,5 +1,6 @@
 -- A refusal's number: it is not the answer 0, and no other refusal has it.
 use Rattle.std.specs.Prelude.{◌≡◌, false, ℕ, ◌<◌, Result, Ok, Err, eqb}
+use Prim.{Unit}
 use Rattle.std.specs.Result.{IsErrAnd}
 use Rattle.std.proofs.Math.Path.{refl, sym, ap, ◌∙◌}
 use Rattle.std.proofs.Common.{arith, ne_eqb}
@@ -100,6 +101,13 @@ refusal-is NotOnce = refl
 
 pub code-inj : (e d : Refusal) → code e ≡ code d → e ≡ d
 code-inj e d h = sym (refusal-is e) ∙ ap refusal_of h ∙ refusal-is d
+
+-- the number tells the result of what gives nothing
+pub done-inj : (x y : Result (Unit {0}) Refusal) → number_of x ≡ number_of y → x ≡ y
+done-inj (Ok u) (Ok v) n = refl
+done-inj (Ok u) (Err e) n = absurd (omega (arith, code-some e, n))
+done-inj (Err e) (Ok v) n = absurd (omega (arith, code-some e, n))
+done-inj (Err e) (Err d) n = ap Err (code-inj e d n)
 
 -- number and byte tell what was given
 pub answer-inj : (x y : Result ℕ Refusal) → number_of x ≡ number_of y → byte_of x ≡ byte_of y → x ≡ y

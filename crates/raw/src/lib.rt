@@ -9,7 +9,7 @@ ghost use Rattle.rules.specs.Outcome.{out, left, settled};
 ghost use Rattle.rules.specs.Files.{put_slot, write_sector};
 ghost use Rattle.raw.specs.Parts.{put_slot_at};
 
-use blocks::refuse;
+use blocks::refuse_with;
 use cells::{copy, get2, put};
 use disk::{Shape, store_sector};
 use rules::block::{BUFFER, ERROR, NAME, POSITION};
@@ -34,7 +34,7 @@ pub fn put_slot(image: &mut [u8], table: &mut [u8], shape: Shape, f: u16) -> Res
             put_slot_at(image, table, f, slot);
             Ok(())
         }
-        Err(_) => Err(refuse(table, f, Refusal::NoDirectory)),
+        Err(_) => Err(refuse_with(table, f, Refusal::NoDirectory)),
     }
 }
 
@@ -44,7 +44,7 @@ pub fn write_sector(image: &mut [u8], table: &mut [u8], shape: Shape, f: u16) ->
 {
     let a = get2(table, f as usize + POSITION);
     if !shape.is_sector(a) {
-        return Err(refuse(table, f, Refusal::BadWrite));
+        return Err(refuse_with(table, f, Refusal::BadWrite));
     }
     store_sector(image, shape.index_of(a), table, f as usize + BUFFER);
     put(table, f as usize + ERROR, 0);

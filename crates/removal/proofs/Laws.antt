@@ -48,12 +48,12 @@ hang-fits M S entry free e h =
     sum_fits (is_data M S entry.start) (is_data M S entry.end) (is_end M S free) (ltb 65535 (free.count + entry.size)) (free.count + entry.size)
     refl (sym h ∙ e)
 
-pub hung : (img : List ℕ) (S slot : ℕ) (entry : Entry) (free : Free) {head : ℕ} {i i' i'' : List ℕ}
-    → head ≡ pick (eqb free.count 0) entry.start free.first → i ≡ stored img (linked (eqb free.count 0) (index S free.last) entry.start)
+pub hung : (img : List ℕ) (S slot : ℕ) (entry : Entry) (free : Free) {k head : ℕ} {i i' i'' : List ℕ} → k ≡ index S free.last
+    → head ≡ pick (eqb free.count 0) entry.start free.first → i ≡ stored img (linked (eqb free.count 0) k entry.start)
     → i' ≡ over i 541 (six head entry.end (free.count + entry.size)) → i'' ≡ stored i' (mark slot)
     → i'' ≡ stored img (hang_stores S slot free.count free.first free.last entry.start entry.end entry.size)
 unfolding hang_stores
-hung img S slot entry free b p q d = rw (stored-append, d, q, p, b) refl
+hung img S slot entry free a b p q d = rw (stored-append, d, q, p, a, b) refl
 
 -- four tests with one number are one
 gathered : (a b c d : Bool) (o : Outcome) → unless a 9 (unless b 9 (unless c 9 (when d 9 o))) ≡ unless (pick a (pick b (pick c (pick d false true) false) false) false) 9 o

@@ -11,7 +11,7 @@ ghost use Rattle.rules.specs.Transfer.{mark};
 ghost use Rattle.rules.specs.Files.{hang_stores, gone, remove};
 ghost use Rattle.removal.specs.Hanging.{is_end, may_hang};
 
-use blocks::refuse;
+use blocks::refuse_with;
 use cells::{copy, put};
 use directory::mark;
 use disk::{Free, Shape, free_of, link, put_free};
@@ -45,17 +45,25 @@ fn may_hang(shape: Shape, entry: Entry, free: Free) -> bool
         && free.count as u32 + entry.size as u32 <= 65535
 }
 
+// Where the free chain begins then.
+fn head_of(entry: Entry, free: Free) -> u16
+    ensures { result ≡ pick (eqb free.count 0) entry.start free.first }
+{
+    if free.count == 0 {
+        entry.start
+    } else {
+        free.first
+    }
+}
+
 // The entry's chain hung behind the free chain, and its slot marked.
 fn hang(image: &mut [u8], shape: Shape, slot: u32, entry: Entry, free: Free)
     requires { free.count + entry.size ≤ 65535 }
     ensures { image.new ≡ stored image.old (hang_stores shape.per slot free.count free.first free.last entry.start entry.end entry.size) }
 {
-    let head = if free.count == 0 {
-        entry.start
-    } else {
-        link(image, shape.index_of(free.last), entry.start);
-        free.first
-    };
+    let k = shape.index_of(free.last);
+    link(image, free.count == 0, k, entry.start);
+    let head = head_of(entry, free);
     put_free(image, head, entry.end, free.count + entry.size);
     mark(image, slot);
 }
@@ -78,7 +86,7 @@ pub fn remove(
         return Ok(());
     }
     if !may_hang(shape, entry, free) {
-        return Err(refuse(table, f, Refusal::BadRead));
+        return Err(refuse_with(table, f, Refusal::BadRead));
     }
     show_marked(image, table, f, slot);
     hang(image, shape, slot, entry, free);

@@ -114,13 +114,13 @@ module _ (img : List ℕ) (M S size a e c : ℕ) (ms : List ℕ) {w : Walked} (v
 
 -- ---- files
 
-pub slot-done : (img : List ℕ) (S o start size : ℕ) (k : Kept) {first map : ℕ} {bs cs ds img₁ img₂ : List ℕ} → first ≡ pick (eqb k.count 0) 0 start
+pub slot-done : (img : List ℕ) (S o start size : ℕ) (k : Kept) {first map at : ℕ} {bs cs ds img₁ img₂ : List ℕ} → first ≡ pick (eqb k.count 0) 0 start
     → map ≡ pick (ltb k.count size) 0 (map_at img o)
     → bs ≡ first / 256 % 256 ∷ first % 256 ∷ [] → cs ≡ k.end / 256 % 256 ∷ k.end % 256 ∷ [] → ds ≡ k.count / 256 % 256 ∷ k.count % 256 ∷ []
     → img₁ ≡ over img (o + start_in_slot) (get_or bs 0 0 ∷ get_or bs 1 0 ∷ get_or cs 0 0 ∷ get_or cs 1 0 ∷ get_or ds 0 0 ∷ get_or ds 1 0 ∷ map ∷ [])
-    → img₂ ≡ stored img₁ (linked (eqb k.count 0) (index S k.end) 0) → img₂ ≡ slot_mended img S o start size k
+    → at ≡ index S k.end → img₂ ≡ stored img₁ (linked (eqb k.count 0) at 0) → img₂ ≡ slot_mended img S o start size k
 unfolding slot_mended six one
-slot-done img S o start size k p q x y z e d = rw (d, e, x, y, z, p, q) refl
+slot-done img S o start size k p q x y z e r d = rw (d, e, x, y, z, r, p, q) refl
 
 module _ (img : List ℕ) (M S o : ℕ) (ms : List ℕ) {a : Bool} (d : a ≡ live img o) where
   pub file-dead : a ≡ false → worked img ms ≡ file_mended img M S o ms

@@ -121,9 +121,8 @@ fn mend_slot(image: &mut [u8], shape: Shape, slot: u32, start: u16, size: u16, k
         start_high, start_low, end_high, end_low, size_high, size_low, map,
     ];
     store(image, slot as usize + START, &record);
-    if count != 0 {
-        link(image, shape.index_of(kept.end), 0);
-    }
+    let k = shape.index_of(kept.end);
+    link(image, count == 0, k, 0);
 }
 
 // A slot's file mended, if the slot is live.
@@ -165,7 +164,7 @@ fn put_before(image: &mut [u8], shape: Shape, k: u16, free: Free) -> Free
     requires { (k < (shape.last + 1) * shape.per) × (free.count < 65535) }
     ensures { chained result image.new ≡ before shape.per k free image.old }
 {
-    link(image, k, free.first);
+    link(image, false, k, free.first);
     let a = shape.address_of(k as u32) as u16;
     let end = end_of(free, a);
     Free {

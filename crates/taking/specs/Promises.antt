@@ -9,7 +9,7 @@ use Rattle.rules.specs.Transfer.{off_free, slot_in, take_for, take_sector}
 use Rattle.laws.specs.Tests.{flag, pick_all}
 use Rattle.laws.specs.Refusals.{code-some}
 use Rattle.laws.specs.Fair.{on_slot-all}
-use Rattle.laws.specs.Single.{Single, single, SingleOut, single-out}
+use Rattle.laws.specs.Single.{Single, single, SingleDone, single-done}
 use Rattle.taking.specs.declared.Block.{Block}
 use Rattle.taking.specs.Take.{free_sector, free_fault, on_ok, follows, take_by, take-for, taken}
 
@@ -25,8 +25,8 @@ take-off-single img S = single (stored img (off_free img S ∷ []))
 pub slot-of-single : (img tab : List ℕ) (M S f : ℕ) → Single (slot_in img tab M S f)
 slot-of-single img tab M S f = single (slot_in img tab M S f)
 
-pub take-sector-single : (img tab : List ℕ) (M S f : ℕ) → SingleOut (left img tab f (taken (take_sector img tab M S f)))
-take-sector-single img tab M S f = single-out (left img tab f (taken (take_sector img tab M S f)))
+pub take-sector-single : (img tab : List ℕ) (M S f : ℕ) → SingleDone (left img tab f (taken (take_sector img tab M S f)))
+take-sector-single img tab M S f = single-done (left img tab f (taken (take_sector img tab M S f)))
 
 -- an outcome that is refused has a number that is not 0
 pub data Numbered : Outcome → Type 0 where

@@ -101,9 +101,8 @@ fn store_new(image: &mut [u8], shape: Shape, new: u16, size: u16)
 fn link_former(image: &mut [u8], shape: Shape, former: u16, new: u16)
     ensures { image.new ≡ stored image.old (linked (eqb former 0) (index shape.per former) new) }
 {
-    if former != 0 {
-        link(image, shape.index_of(former), new);
-    }
+    let k = shape.index_of(former);
+    link(image, former == 0, k, new);
 }
 
 // A slot's start, end and size.

@@ -12,7 +12,7 @@ ghost use Rattle.rules.specs.Block.{index_field, buffer_field};
 ghost use Rattle.rules.specs.Transfer.{next_to_read, load_puts, load, reading, take_sector, sent, fill, writing, shut, mark, close_writing, close};
 ghost use Rattle.transfer.specs.Close.{close_empty, close_partial};
 
-use blocks::{Activity, refuse};
+use blocks::{Activity, refuse_with};
 use cells::{copy, get, get2, put, put2};
 use directory::mark;
 use disk::{Shape, load_sector, store_data};
@@ -50,10 +50,10 @@ fn load_at(image: &[u8], table: &mut [u8], shape: Shape, f: u16, a: u16) -> Resu
     ensures { out (number_of result) (byte_of result) image.now table.new ≡ left image.now table.old f (settled (load image.now shape.last shape.per a)) }
 {
     if a == 0 {
-        return Err(refuse(table, f, Refusal::AtEnd));
+        return Err(refuse_with(table, f, Refusal::AtEnd));
     }
     if !shape.is_data(a) {
-        return Err(refuse(table, f, Refusal::BadRead));
+        return Err(refuse_with(table, f, Refusal::BadRead));
     }
     let k = shape.index_of(a);
     load_table(image, table, f, a, k);
@@ -106,7 +106,7 @@ fn write_first(
             send(table, f, 4, byte);
             Ok(())
         }
-        Err(e) => Err(refuse(table, f, e)),
+        Err(e) => Err(refuse_with(table, f, e)),
     }
 }
 
@@ -131,7 +131,7 @@ fn write_last(
 {
     let a = get2(table, f as usize + POSITION);
     if !shape.is_data(a) {
-        return Err(refuse(table, f, Refusal::BadWrite));
+        return Err(refuse_with(table, f, Refusal::BadWrite));
     }
     store_full(image, table, shape, f, a, byte);
     send(table, f, 255, byte);
@@ -177,7 +177,7 @@ fn close_empty(image: &mut [u8], table: &mut [u8], shape: Shape, f: u16) -> Resu
             shut_block(table, f);
             Ok(())
         }
-        Err(_) => Err(refuse(table, f, Refusal::NoDirectory)),
+        Err(_) => Err(refuse_with(table, f, Refusal::NoDirectory)),
     }
 }
 
@@ -192,7 +192,7 @@ fn close_partial(
     ensures { out (number_of result) 0 image.new table.new ≡ left image.old table.old f (settled (close_partial table.old shape.last shape.per f a)) }
 {
     if !shape.is_data(a) {
-        return Err(refuse(table, f, Refusal::BadWrite));
+        return Err(refuse_with(table, f, Refusal::BadWrite));
     }
     let k = shape.index_of(a);
     store_data(image, k, table, f as usize + DATA);

@@ -1,8 +1,9 @@
-use Rattle.std.proofs.Common.{sym, arith}
-use Rattle.laws.specs.Visits.{slots-visits, visits_few}
+use Rattle.std.proofs.Common.{arith}
+use Rattle.directory.proofs.Laws.{all-slots, no-slots}
 use Rattle.directory.proofs.slots.Goals as goal
 
-pub returns : goal.returns
-returns c =
-    let few = visits_few c.args.image.now c.args.shape.last c.args.shape.per c.most_slots.result 1040 in
-    (rw c.most_slots.ensures.0 (sym (slots-visits _ _ _)), omega (arith, few, c.most_slots.ensures.1))
+pub returns-in-Some : goal.returns-in-Some
+returns-in-Some c = all-slots _ _ _ c.most_of.result c.most_of.ensures (omega (arith, c.most_of.type_inv)) c.in-Some.ensures.0 c.in-Some.ensures.1
+
+pub returns-in-None : goal.returns-in-None
+returns-in-None c = no-slots _ _ _ c.most_of.result c.most_of.ensures c.in-None.ensures

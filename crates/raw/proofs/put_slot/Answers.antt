@@ -1,6 +1,7 @@
 use Rattle.rules.specs.Files.{put_slot}
-use Rattle.laws.specs.Settled.{slot-on, slot-none}
+use Rattle.laws.specs.Settled.{slot-on}
 use Rattle.raw.specs.Parts.{put_slot_at}
+use Rattle.raw.proofs.Laws.{put_none}
 use Rattle.raw.proofs.put_slot.Goals as goal
 
 pub returns-in-Ok : goal.returns-in-Ok
@@ -8,5 +9,4 @@ unfolding put_slot put_slot_at
 returns-in-Ok c = search slot-on
 
 pub returns-in-Err : goal.returns-in-Err
-unfolding put_slot put_slot_at
-returns-in-Err c = search slot-none
+returns-in-Err c = search put_none
