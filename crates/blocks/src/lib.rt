@@ -74,12 +74,12 @@ pub fn in_use(readers: bool, table: &[u8], shape: Shape, slot: u32) -> bool
     false
 }
 
-// A refusal by its number: the number is the answer, and all that is stored, in byte 1 of the block that begins at f.
-pub fn refuse(table: &mut [u8], f: u16, number: u8) -> u8
-    ensures { (result ≡ number) × (table.new ≡ over table.old (f + 1) (one number)) }
+// A refusal: its number is the answer, and all that is stored, in byte 1 of the block that begins at f.
+pub fn refuse(table: &mut [u8], f: u16, e: u8) -> u8
+    ensures { (result ≡ e) × (table.new ≡ over table.old (f + 1) (one e)) }
 {
-    put(table, f as usize + ERROR, number);
-    number
+    put(table, f as usize + ERROR, e);
+    e
 }
 
 // A refusal handed on, its number stored.

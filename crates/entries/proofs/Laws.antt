@@ -1,14 +1,17 @@
 -- Bytes read are a part; what a slot's attributes say; an entry stored field by field.
 use mathlib.Core.Path.{◌≡◌, refl, sym, ap, ◌∙◌}
 use mathlib.Core.List.{List, ◌++◌}
-use Prim.Native.Nat.{ℕ, ◌+◌, ◌/◌, ◌%◌}
+use Prim.Native.Nat.{ℕ, ◌+◌, ◌/◌, ◌%◌, ◌<◌, ◌≤◌}
 use native.Mathlib.Omega.{arith}
-use lib.ListN.{get_or, length, length-append}
+use lib.ListN.{get_or, set, take, length, length-append}
+use lib.Seq.{take_all}
 use lib.Dec.{eqb}
 use Rattle.rules.specs.Bytes.{part, over, one, two}
 use Rattle.rules.specs.Directory.{attributes_at}
 use Rattle.rules.specs.Files.{has_attribute}
-use Rattle.laws.specs.Bytes.{length_part, part-all, over-append}
+use Rattle.std.proofs.lemmas.List.{get_or_default}
+use Rattle.laws.specs.Bytes.{length_part, part_at, part-all, over-append}
+use Rattle.cells.proofs.Laws.{laid-more, laid-end}
 use Rattle.laws.specs.Lent.{over-exact}
 use Rattle.entries.specs.Entries.{bytes_of}
 use Rattle.entries.specs.Protections.{forbids, number_of}
@@ -16,8 +19,15 @@ use Rattle.entries.specs.declared.Entry.{Entry}
 use Rattle.entries.specs.declared.Protection.{Protection}
 use Rattle.entries.specs.declared.Protection.TheVariants.{Write, Delete, Read}
 
-pub bytes-read : (m b : List ℕ) (at n : ℕ) {d : List ℕ} → d ≡ over b 0 (part m at n) → length b ≡ n → d ≡ part m at n
-bytes-read m b at n e l = e ∙ over-exact b (part m at n) (length_part m at n ∙ sym l)
+-- bytes read one by one: d is what is read after i of n
+module _ (m d : List ℕ) (at n i : ℕ) (e : take i d ≡ take i (part m at n)) where
+  pub read-more : {v : ℕ} → i < length d → i < n → v ≡ get_or m (at + i) 0 → take (i + 1) (set d i v) ≡ take (i + 1) (part m at n)
+  read-more {v} h k q =
+      let l : i < length (part m at n) = omega (arith, k, length_part m at n) in
+      laid-more d (part m at n) i e v h l (q ∙ sym (part_at m at n i k) ∙ get_or_default (part m at n) i 0 v l)
+
+  pub read-end : length d ≡ n → n ≤ i → i ≤ n → d ≡ part m at n
+  read-end l h k = laid-end d (part m at n) i e n l h k ∙ take_all n (part m at n) (omega (arith, length_part m at n))
 
 forbids-is : (p : Protection) (attributes : ℕ) → forbids p attributes ≡ has_attribute (number_of p) attributes
 forbids-is Write attributes = refl

@@ -1,13 +1,13 @@
 // A directory entry by value: loaded from a slot, made for a new file, stored.
 #![tactic(auto)]
 
-ghost use Rattle.std.specs.Prelude.{◌≡◌};
+ghost use Rattle.std.specs.Prelude.{◌≡◌, length};
 ghost use Rattle.rules.specs.Bytes.{part, over};
 ghost use Rattle.rules.specs.Directory.{attributes_at};
 ghost use Rattle.entries.specs.Entries.{entry_of, new_of, bytes_of};
 ghost use Rattle.entries.specs.Protections.{number_of, forbids};
 
-use cells::{copy, get, get2, put, put2, store};
+use cells::{get, get_in, get2, put, put2, store};
 use rules::block;
 use rules::slot::{ATTRIBUTES, DATE, END, MAP, SIZE, SLOT_LENGTH, START};
 
@@ -62,12 +62,21 @@ impl Entry {
     }
 }
 
+// Every byte set to the one so far behind a place, 0 past the end.
+fn read(bytes: &mut [u8], buffer: &[u8], at: usize)
+    ensures { bytes.new ≡ part buffer.now at (length bytes.old) }
+{
+    for (i, byte) in bytes.iter_mut().enumerate() {
+        *byte = get_in(buffer, at, i);
+    }
+}
+
 // The N bytes at a place.
 pub fn bytes_at<const N: usize>(buffer: &[u8], at: usize) -> [u8; N]
     ensures { result ≡ part buffer.now at N }
 {
     let mut bytes = [0; N];
-    copy(&mut bytes, 0, buffer, at, N);
+    read(&mut bytes, buffer, at);
     bytes
 }
 

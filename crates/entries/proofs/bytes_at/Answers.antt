@@ -1,6 +1,5 @@
 use borrow.Author.Rules.{rules}
-use Rattle.entries.proofs.Laws.{bytes-read}
 use Rattle.entries.proofs.bytes_at.Goals as goal
 
 pub returns : goal.returns
-returns g c = search (rules, bytes-read)
+returns g c = search rules

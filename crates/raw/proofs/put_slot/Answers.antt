@@ -8,5 +8,7 @@ pub returns-in-Ok : goal.returns-in-Ok
 unfolding put_slot put_slot_at
 returns-in-Ok c = search slot-on
 
+-- whatever it is that makes the place no slot's,
+-- one law tells what is left
 pub returns-in-Err : goal.returns-in-Err
 returns-in-Err c = search put_none
